@@ -1,6 +1,7 @@
 -- The first pair with a label, as a member of a key.
 use Rattle.std.specs.List.{find, list_any}
-use Rattle.std.proofs.Common.{◌≡◌, ◌∙◌, ◌||◌, Bool, true, false, List, [], ◌∷◌, map, cond, Option, Some, None, option_map, is_some, Bor, refl, sym, ap}
+use Rattle.std.proofs.Common.{◌≡◌, ◌∙◌, ◌+◌, ◌<◌, ℕ, suc, length, get_or, drop, drop-cons, ◌||◌, Bool, true, false, List, [], ◌∷◌, map, cond, Option, Some, None, option_map, is_some, Bor, refl, sym, ap}
+use Rattle.std.proofs.Math.Numerals.{add-one}
 use Rattle.passkey_cbor.specs.Item.{Item}
 use Rattle.passkey_cbor.specs.View.{item_of}
 use Rattle.passkey_cbor.specs.declared.value.Value.{Value}
@@ -69,3 +70,11 @@ pub any_other_way : {X : Type 0} (E : X → X → Bool) (symm : (x y : X) → E 
 any_other_way E symm f v [] = refl
 any_other_way E symm f v (w ∷ ws) = ap (λ b. b || list_any (λ w. E (f w) (f v)) ws) (symm (f w) (f v))
     ∙ ap (λ b. E (f v) (f w) || b) (any_other_way E symm f v ws)
+
+-- the first pair with a label, from an index on
+pub find_from : {L V : Type 0} (test : L → Bool) (ps : List (L × V)) (i : ℕ) (p : L × V) → i < length ps
+    → p ≡ get_or ps i p
+    → find (λ q. test q.0) (drop i ps) ≡ cond (test p.0) (Some p) (find (λ q. test q.0) (drop (i + 1) ps))
+find_from test ps i p within is =
+    rw (add-one i) (ap (find (λ q. test q.0)) (drop-cons ps i p within)
+    ∙ ap (λ q. cond (test q.0) (Some q) (find (λ q. test q.0) (drop (suc i) ps))) (sym is))
