@@ -97,8 +97,9 @@ fn write_entries<T: ToCbor>(
 {
     let mut pairs = Vec::with_capacity(alloc, entries.len())?;
     for (key, value) in entries {
-        let key = Value::Bytes(Vec::from_slice(alloc, key.as_slice())?);
-        pairs.push((key, value.to_value(alloc)?))?;
+        let key = Vec::from_slice(alloc, key.as_slice())?;
+        let value = value.to_value(alloc)?;
+        pairs.push((Value::Bytes(key), value))?;
     }
     Ok(pairs)
 }
