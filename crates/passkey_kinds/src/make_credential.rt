@@ -33,8 +33,7 @@ impl PlainRecord for SignedExtensionOutputs {
 
     fn put_members<S: Sink>(&self, alloc: Global, sink: &mut S) -> Result<(), OutOfMemory> {
         sink.put_some(alloc, "hmac-secret", &self.hmac_secret)?;
-        sink.put_some(alloc, "hmac-secret-mc", &self.hmac_secret_mc)?;
-        Ok(())
+        sink.put_some(alloc, "hmac-secret-mc", &self.hmac_secret_mc)
     }
 
     #[tactic(auto, using(crate::proofs::Lawful::make_credential_signed_law))]

@@ -44,8 +44,7 @@ impl PlainRecord for PublicKeyCredentialDescriptor {
     fn put_members<S: Sink>(&self, alloc: Global, sink: &mut S) -> Result<(), OutOfMemory> {
         sink.put(alloc, "id", &self.id)?;
         sink.put(alloc, "type", &self.ty)?;
-        sink.put_some(alloc, "transports", &self.transports)?;
-        Ok(())
+        sink.put_some(alloc, "transports", &self.transports)
     }
 
     #[tactic(auto, using(crate::proofs::Lawful::descriptor_law))]
@@ -76,8 +75,7 @@ impl PlainRecord for PublicKeyCredentialParameters {
 
     fn put_members<S: Sink>(&self, alloc: Global, sink: &mut S) -> Result<(), OutOfMemory> {
         sink.put(alloc, "alg", &self.alg)?;
-        sink.put(alloc, "type", &self.ty)?;
-        Ok(())
+        sink.put(alloc, "type", &self.ty)
     }
 
     #[tactic(auto, using(crate::proofs::Lawful::parameters_law))]
