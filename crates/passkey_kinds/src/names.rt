@@ -18,7 +18,6 @@ fn read_name<T: EnumNames>(value: &Value) -> Result<T, Refusal>
 }
 
 /// Returns the names of at most 16 rows, followed by empty names.
-#[tactic(auto, using(passkey_webauthn::specs::NameLaws::one_more_text))]
 fn names_of<T: EnumNames>(table: &[(&'static str, T)]) -> [&'static str; 16]
     requires { length table.now ≤ 16 }
     ensures { map (λ n. n.now) (take (length table.now) result) ≡ texts (map row_of table.now) }

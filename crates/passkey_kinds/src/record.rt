@@ -57,7 +57,6 @@ pub trait Record: Drop {
 }
 
 /// Decodes the value of the next member, by what its map key names.
-#[tactic(auto, using(crate::proofs::Members::reads_one))]
 fn read_member<R: Record, S: Source>(
     alloc: Global,
     read: &mut R,

@@ -19,7 +19,6 @@ pub(crate) fn write_each<T: ToCbor>(alloc: Global, list: &[T]) -> Result<Vec<Val
     Ok(values)
 }
 
-#[tactic(auto, using(crate::proofs::Lists::fits_more))]
 pub(crate) fn append_each<T: ToCbor>(
     alloc: Global,
     list: &[T],

@@ -1,4 +1,5 @@
-use Rattle.passkey_kinds.proofs.Steps.{map, map_push, item_of, fits_more, written_more}
+use Rattle.passkey_kinds.proofs.Steps.{arith, ◌∙◌, sym, drop_all, map, map_push, item_of, fits_more, written_more}
+use Rattle.passkey_kinds.proofs.Common.{append-nil}
 use Rattle.passkey_kinds.proofs.written.write_each.Goals as goal
 
 pub loop-value-preserved : goal.loop-value-preserved
@@ -11,3 +12,12 @@ loop-value-preserved g c =
       fits = fits_more g.T.ToCbor.fits _ _ c.value-item.result c.value-item.is c.loop-value-test.true
           c.in_ok-to_value.ensures.fits c.loop-value.invariant.fits;
     }
+
+pub returns-clause-trees : goal.returns-clause-trees
+returns-clause-trees g c =
+    sym (append-nil _) ∙ (rw (drop_all _ c.args.list.now c.loop-value-test.false) at c.loop-value.invariant.items)
+
+pub returns-clause-fits : goal.returns-clause-fits
+returns-clause-fits g c =
+    c.loop-value.invariant.fits (rw (drop_all _ c.args.list.now c.loop-value-test.false)
+    (λ k d less. absurd (omega (arith, less))))
