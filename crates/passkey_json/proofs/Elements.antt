@@ -24,7 +24,7 @@ pub array_view : (w : Value) (v : Vec Value Global) (vs : List Value) → w ≡ 
     → view w ≡ array (items_view vs)
 array_view w v vs is same = rw (is, same) (view-Array v)
 
-pub array_takes : (w : Value) (v : Vec Value Global) → w ≡ Array v → IsTrue (is_array (view w))
+array_takes : (w : Value) (v : Vec Value Global) → w ≡ Array v → IsTrue (is_array (view w))
 array_takes w v is = rw (is, view-Array v) refl
 
 pub no_memory : {A : Type 0} (kind : Kind A) (r : Result A JsonRefusal) (w : Value) (v : Vec Value Global)

@@ -1,5 +1,5 @@
 use Rattle.std.proofs.Common.{◌∙◌, refl}
-use Rattle.passkey_json.proofs.Elements.{accepted_less, accepted_more, accepted_read, array_takes, array_view, next_item, no_memory}
+use Rattle.passkey_json.proofs.Elements.{accepted_less, accepted_more, accepted_read, array_view, next_item, no_memory}
 use Rattle.passkey_json.proofs.list.TolerantListFromJson.from_value.Goals as goal
 use Rattle.passkey_json.proofs.list.TolerantListFromJson.from_value.Goals.{in-Ok+in_ok-push-in-Ok, in-Err-Refused}
 use Rattle.passkey_json.specs.Kind.{accepted}
@@ -8,9 +8,6 @@ pub returns-in_err-push-in-Ok : goal.returns-in_err-push-in-Ok
 returns-in_err-push-in-Ok g c =
     no_memory (accepted g.T.FromJson.kind) c.from_residual.result c.args.value.now c.in-Array.elements
     c.in-Array.is c.from_residual.ensures.1
-
-pub returns-in-Err-OutOfMemory : goal.returns-in-Err-OutOfMemory
-returns-in-Err-OutOfMemory g c = array_takes c.args.value.now c.in-Array.elements c.in-Array.is
 
 pub loop-element-preserved : goal.loop-element-preserved
 loop-element-preserved g c =
