@@ -1,9 +1,8 @@
 //! The response to a sign-in, decoded from JSON objects and encoded.
 ghost use Rattle.passkey_credentials.specs.Credentials.{assertion_response};
 
-use crate::place::place;
 use passkey_bytes::Bytes;
-use passkey_json::{EncodeResult, JsonEncoder, JsonFault, Member, PlainJsonRecord, Row};
+use passkey_json::{EncodeResult, JsonEncoder, JsonFault, Member, PlainJsonRecord, Row, place};
 use std::alloc::Global;
 
 /// The response to a sign-in (WebAuthn Level 3, section 5.2.2; as JSON in section 5.1).

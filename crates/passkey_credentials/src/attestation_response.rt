@@ -3,9 +3,8 @@ ghost use Rattle.std.specs.Prelude.{◌≡◌, ◌<◌, ◌⊎◌, length, IfOk,
 ghost use Rattle.std.specs.Option.{IsSomeAnd};
 ghost use Rattle.passkey_credentials.specs.Credentials.{attestation_response};
 
-use crate::place::place;
 use passkey_bytes::{Bytes, List};
-use passkey_json::{EncodeResult, JsonEncoder, JsonFault, Member, PlainJsonRecord, Row};
+use passkey_json::{EncodeResult, JsonEncoder, JsonFault, Member, PlainJsonRecord, Row, place};
 use passkey_memory::OutOfMemory;
 use passkey_webauthn::AuthenticatorTransport;
 use std::alloc::Global;

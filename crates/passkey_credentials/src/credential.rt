@@ -3,12 +3,11 @@ ghost use Rattle.passkey_credentials.specs.Credentials.{credential};
 
 use crate::assertion_response::AuthenticatorAssertionResponse;
 use crate::attestation_response::AuthenticatorAttestationResponse;
-use crate::place::place;
 use crate::response::AuthenticatorResponse;
 use passkey_bytes::{Bytes, Text};
 use passkey_json::{
     AuthenticationExtensionsClientOutputs, AuthenticatorAttachment, EncodeResult, JsonEncoder,
-    JsonFault, Member, PlainJsonRecord, Row,
+    JsonFault, Member, PlainJsonRecord, Row, place,
 };
 use passkey_webauthn::PublicKeyCredentialType;
 use std::alloc::Global;

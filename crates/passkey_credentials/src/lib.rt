@@ -5,7 +5,6 @@
 mod assertion_response;
 mod attestation_response;
 mod credential;
-mod place;
 mod response;
 
 pub use assertion_response::AuthenticatorAssertionResponse;

@@ -39,7 +39,7 @@ pub use json_fault::JsonFault;
 pub use json_record::{JsonRecord, read_nested};
 pub use json_refusal::JsonRefusal;
 pub use list::TolerantList;
-pub use member::Member;
+pub use member::{Member, place};
 pub use names::{read_name, written_name};
 pub use object::Object;
 pub use passkey_memory::OutOfMemory;

@@ -41,8 +41,9 @@ fn decoded_or_fault<T: FromJson>(
     }
 }
 
-/// Puts the value in place of an old one, or returns the fault.
-pub(crate) fn place<T: Drop>(place: &mut T, read: Result<T, JsonFault>) -> Result<(), JsonFault>
+/// Puts a decoded member in place of an old value, or returns its fault and leaves the old one.
+#[inline(always)]
+pub fn place<T: Drop>(place: &mut T, read: Result<T, JsonFault>) -> Result<(), JsonFault>
     ensures { IsPlaced read place.old place.new result }
 {
     *place = read?;

@@ -1,7 +1,7 @@
 //! The options of a registration, decoded from JSON objects and encoded.
 ghost use Rattle.passkey_options.specs.Options.{creation_options};
 
-use crate::place::{place, place_list};
+use crate::place_list::place_list;
 use crate::preferences::{
     AttestationConveyancePreference, AttestationStatementFormatIdentifiers,
     PublicKeyCredentialHints,
@@ -9,7 +9,7 @@ use crate::preferences::{
 use passkey_bytes::{Bytes, List};
 use passkey_json::{
     AuthenticationExtensionsClientInputs, AuthenticatorSelectionCriteria, EncodeResult,
-    JsonEncoder, JsonFault, Member, PlainJsonRecord, Row,
+    JsonEncoder, JsonFault, Member, PlainJsonRecord, Row, place,
 };
 use passkey_webauthn::{
     PublicKeyCredentialDescriptor, PublicKeyCredentialParameters, PublicKeyCredentialRpEntity,

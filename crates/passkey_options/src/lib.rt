@@ -4,7 +4,7 @@
 
 mod arguments;
 mod creation_options;
-mod place;
+mod place_list;
 mod preferences;
 mod request_options;
 

@@ -1,7 +1,6 @@
 //! The options of a sign-in, decoded from JSON objects and encoded.
 ghost use Rattle.passkey_options.specs.Options.{request_options};
 
-use crate::place::place;
 use crate::preferences::{
     AttestationConveyancePreference, AttestationStatementFormatIdentifiers,
     PublicKeyCredentialHints,
@@ -9,7 +8,7 @@ use crate::preferences::{
 use passkey_bytes::{Bytes, List, Text};
 use passkey_json::{
     AuthenticationExtensionsClientInputs, EncodeResult, JsonEncoder, JsonFault, Member,
-    PlainJsonRecord, Row, UserVerificationRequirement,
+    PlainJsonRecord, Row, UserVerificationRequirement, place,
 };
 use passkey_webauthn::PublicKeyCredentialDescriptor;
 use std::alloc::Global;
