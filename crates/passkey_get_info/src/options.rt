@@ -104,8 +104,7 @@ impl Options {
         sink.put_some(alloc, "alwaysUv", &self.always_uv)?;
         sink.put_some(alloc, "credMgmt", &self.cred_mgmt)?;
         sink.put_some(alloc, "authnrCfg", &self.authnr_cfg)?;
-        sink.put_some(alloc, "bioEnroll", &self.bio_enroll)?;
-        Ok(())
+        sink.put_some(alloc, "bioEnroll", &self.bio_enroll)
     }
 
     fn put_last<S: Sink>(&self, alloc: Global, sink: &mut S) -> Result<(), OutOfMemory>
@@ -132,8 +131,7 @@ impl Options {
             alloc,
             "noMcGaPermissionsWithClientPin",
             &self.no_mc_ga_permissions_with_client_pin,
-        )?;
-        Ok(())
+        )
     }
 }
 
@@ -200,8 +198,7 @@ impl PlainRecord for Options {
     #[tactic(auto, using(passkey_kinds::proofs::Sinks::accepted_both))]
     fn put_members<S: Sink>(&self, alloc: Global, sink: &mut S) -> Result<(), OutOfMemory> {
         self.put_first(alloc, sink)?;
-        self.put_last(alloc, sink)?;
-        Ok(())
+        self.put_last(alloc, sink)
     }
 
     #[tactic(auto, using(crate::proofs::GetInfos::options_law))]

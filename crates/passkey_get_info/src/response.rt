@@ -386,8 +386,7 @@ impl Encodable<'_> {
         sink.put_some(alloc, 0x05_u8, &self.max_msg_size)?;
         sink.put_some(alloc, 0x06_u8, &self.response.pin_protocols)?;
         sink.put_some(alloc, 0x09_u8, &self.response.transports)?;
-        sink.put_some(alloc, 0x0a_u8, &self.response.algorithms)?;
-        Ok(())
+        sink.put_some(alloc, 0x0a_u8, &self.response.algorithms)
     }
 
     fn put_middle_members<S: Sink>(&self, alloc: Global, sink: &mut S) -> Result<(), OutOfMemory>
@@ -406,8 +405,7 @@ impl Encodable<'_> {
         sink.put_some(alloc, 0x11_u8, &response.preferred_platform_uv_attempts)?;
         sink.put_some(alloc, 0x12_u8, &response.uv_modality)?;
         sink.put_some(alloc, 0x13_u8, &response.certifications)?;
-        sink.put_some(alloc, 0x14_u8, &response.remaining_discoverable_credentials)?;
-        Ok(())
+        sink.put_some(alloc, 0x14_u8, &response.remaining_discoverable_credentials)
     }
 
     fn put_last_members<S: Sink>(&self, alloc: Global, sink: &mut S) -> Result<(), OutOfMemory>
@@ -425,8 +423,7 @@ impl Encodable<'_> {
         sink.put_some(alloc, 0x1a_u8, &response.transports_for_reset)?;
         sink.put_some(alloc, 0x1b_u8, &response.pin_complexity_policy)?;
         sink.put_some(alloc, 0x1c_u8, &response.pin_complexity_policy_url)?;
-        sink.put_some(alloc, 0x1d_u8, &response.max_pin_length)?;
-        Ok(())
+        sink.put_some(alloc, 0x1d_u8, &response.max_pin_length)
     }
 }
 
@@ -439,8 +436,7 @@ impl ToCborMap for Encodable<'_> {
     fn put_members<S: Sink>(&self, alloc: Global, sink: &mut S) -> Result<(), OutOfMemory> {
         self.put_first_members(alloc, sink)?;
         self.put_middle_members(alloc, sink)?;
-        self.put_last_members(alloc, sink)?;
-        Ok(())
+        self.put_last_members(alloc, sink)
     }
 
     fn ordered()
