@@ -11,7 +11,7 @@ returns-clause-reads g c =
       item = read.item;
       len = read.len;
       front = rw c.new-cursor.ensures at read.front;
-      holds = (omega (arith, read.holds.0, place, c.place.ensures), read.holds.1);
+      holds = (omega (arith, read.holds.0, place), read.holds.1);
     }
 
 pub returns-clause-grows : goal.returns-clause-grows
