@@ -1,5 +1,5 @@
 -- What decoding authenticator data adds to the counts, step by step.
-use Rattle.std.proofs.Common.{◌≡◌, ◌∙◌, ℕ, ◌+◌, ◌*◌, ◌<◌, ◌≤◌, List, length, Bool, true, Option, Some, Result, Ok, Err, Bor, sym, ap, subst, arith}
+use Rattle.std.proofs.Common.{◌≡◌, ◌∙◌, ℕ, ◌+◌, ◌<◌, ◌≤◌, List, length, Bool, true, Option, Some, Result, Ok, Err, Bor, sym, ap, subst, arith}
 use Rattle.passkey_cbor.specs.CursorState.{raised}
 use Rattle.passkey_cbor.specs.declared.count.Count.{Count}
 use Rattle.passkey_cbor.specs.Bytes.{IsBytes}
@@ -7,23 +7,15 @@ use Rattle.passkey_cbor.proofs.LeadingItems.{front_given, given_front}
 use Rattle.passkey_cose.specs.declared.error.CoseError.{CoseError}
 use Rattle.passkey_cose.specs.declared.error.CoseError.TheVariants as cose
 use Rattle.passkey_core.specs.DataAnswers.{Returns}
-use Rattle.passkey_core.specs.DataCounts.{Counts, CountsEach, ExceptOutOfMemory, UnlessOutOfMemory}
+use Rattle.passkey_core.specs.DataCounts.{Counts, CountsData, CountsEach, ExceptOutOfMemory, UnlessOutOfMemory}
 use Rattle.passkey_core.specs.DataFlags.{attested_flag, extensions_flag, has_flag}
-use Rattle.passkey_core.specs.DataNodes.{front_heads, front_nodes, count_behind, count_where, count_key, count_data, one, data_nodes, data_places}
+use Rattle.passkey_core.specs.DataNodes.{front_heads, front_nodes, count_behind, count_where, count_key, count_data, one}
 use Rattle.passkey_core.specs.DataParts.{AttestedParts, DataParts}
 use Rattle.passkey_core.specs.DataRead.{attested_at, where_at}
 use Rattle.passkey_core.specs.DataReading.{Begun, ◌>>=◌, fixed_at, ids_at, ReadsAttested, ReadsWhere}
 use Rattle.passkey_core.proofs.DataCounting.{except, unless_map}
 use Rattle.passkey_core.proofs.DataGiven.{LeavesBytes, fixed_leave, attested_where_given, attested_where_gives}
 use Rattle.passkey_core.proofs.DataShrinking.{fixed_shrink}
-
--- what decoding the bytes adds
-pub record Totals (bytes : List ℕ) (old new : Count) : Type 0 where
-  pub heads : new.heads ≤ old.heads + (4 * length bytes + 4)
-  pub nodes : new.nodes ≤ old.nodes + data_nodes bytes
-  pub least : 0 < data_places bytes → raised old.heads 1 ≤ new.heads
-  pub heads_rise : old.heads ≤ new.heads
-  pub nodes_rise : old.nodes ≤ new.nodes
 
 -- ---- an error in the parts of fixed length
 
@@ -36,7 +28,7 @@ nothing_behind each bytes e h =
     fixed.1) (λ attested. count_where (has_flag extensions_flag fixed.0.flags) each attested.1))) h
 
 pub totals_fixed : (bytes : List ℕ) (e : CoseError) (count : Count) → fixed_at bytes ≡ Err e
-    → Totals bytes count count
+    → CountsData bytes count count
 totals_fixed bytes e count h = record {
   heads = omega arith;
   nodes = omega arith;
@@ -85,21 +77,18 @@ part_first : (fixed : DataParts) (rest : List ℕ) (is_there : Bool) → is_ther
     → 0 < count_where is_there (count_key one) rest
 part_first fixed rest is_there there = rw there (key_first fixed rest)
 
-pub totals_attested : {A : Type 0} (bytes : List ℕ) (fixed : DataParts) (rest : List ℕ) (is_attested : Bool)
-    (e : CoseError) (old new : Count) → Ok (fixed, rest) ≡ fixed_at bytes
-    → is_attested ≡ has_flag attested_flag fixed.flags → is_attested ≡ true → Counts {A = A}
-    (λ each. count_where is_attested (count_key each) rest) rest old new (Err e) → Totals bytes old new
-totals_attested bytes fixed rest is_attested e old new is_fixed flag there h =
-    let parts : (each : List ℕ → ℕ) → count_data each bytes ≡ count_where is_attested (count_key each) rest
-    + behind_attested each fixed (where_at is_attested attested_at rest) =
-    λ each. rw flag (parts_of each bytes fixed rest is_fixed) in
-    record {
-      heads = omega (arith, h.heads, fixed_shrink bytes fixed rest is_fixed);
-      nodes = omega (arith, h.nodes, parts front_nodes);
-      least = λ some. h.least (part_first fixed rest is_attested there (rw (sym (parts one)) some));
-      heads_rise = h.heads_rise;
-      nodes_rise = h.nodes_rise;
-    }
+pub totals_attested : {A : Type 0} (bytes : List ℕ) (fixed : DataParts) (rest : List ℕ) (e : CoseError)
+    (old new : Count) → Ok (fixed, rest) ≡ fixed_at bytes → has_flag attested_flag fixed.flags ≡ true
+    → Counts {A = A} (λ each. count_where (has_flag attested_flag fixed.flags) (count_key each) rest) rest old new
+    (Err e) → CountsData bytes old new
+totals_attested bytes fixed rest e old new is_fixed there h = record {
+  heads = omega (arith, h.heads, fixed_shrink bytes fixed rest is_fixed);
+  nodes = omega (arith, h.nodes, parts_of front_nodes bytes fixed rest is_fixed);
+  least = λ some. h.least (part_first fixed rest (has_flag attested_flag fixed.flags) there
+      (rw (sym (parts_of one bytes fixed rest is_fixed)) some));
+  heads_rise = h.heads_rise;
+  nodes_rise = h.nodes_rise;
+}
 
 -- what is known of a fault that isn't out of memory
 faulted : {A B : Type 0} (P Q memory : Type 0) (seen : A → B) (answers : Result B CoseError → Type 0)
@@ -112,19 +101,20 @@ faulted P Q memory seen answers cose.DuplicateMapKey r p f = f r p
 faulted P Q memory seen answers cose.UnexpectedItem r p f = f r p
 
 pub all_attested : {A : Type 0} (memory : Type 0) (seen : A × Bor (List ℕ) → Option AttestedParts × List ℕ)
-    (bytes : List ℕ) (fixed : DataParts) (rest : List ℕ) (is_attested : Bool) (e : CoseError) (old new : Count)
-    → IsBytes bytes → Ok (fixed, rest) ≡ fixed_at bytes → is_attested ≡ has_flag attested_flag fixed.flags
-    → Returns memory seen (ReadsWhere is_attested ReadsAttested rest) (Err e)
-    → Counts {A = A} (λ each. count_where is_attested (count_key each) rest) rest old new (Err e)
-    → ExceptOutOfMemory e (CountsEach (λ each. count_data each bytes) old new)
-all_attested memory seen bytes fixed rest is_attested e old new fits is_fixed flag reads h =
+    (bytes : List ℕ) (fixed : DataParts) (rest : List ℕ) (e : CoseError) (old new : Count) → IsBytes bytes
+    → Ok (fixed, rest) ≡ fixed_at bytes
+    → Returns memory seen (ReadsWhere (has_flag attested_flag fixed.flags) ReadsAttested rest) (Err e)
+    → Counts {A = A} (λ each. count_where (has_flag attested_flag fixed.flags) (count_key each) rest) rest old new
+    (Err e) → ExceptOutOfMemory e (CountsEach (λ each. count_data each bytes) old new)
+all_attested memory seen bytes fixed rest e old new fits is_fixed reads h =
+    let is_attested : Bool = has_flag attested_flag fixed.flags in
     let rest_fits : IsBytes rest = subst LeavesBytes (sym is_fixed) (fixed_leave bytes fits) in
     faulted (CountsEach (λ each. count_where is_attested (count_key each) rest) old new)
     (CountsEach (λ each. count_data each bytes) old new) memory seen (ReadsWhere is_attested ReadsAttested rest) e reads
     h.all (λ fails p.
     let given = attested_where_gives front_given given_front is_attested rest rest_fits (Err e) fails in
     let parts : (each : List ℕ → ℕ) → count_data each bytes ≡ count_where is_attested (count_key each) rest + 0 =
-    λ each. rw flag (parts_of each bytes fixed rest is_fixed)
+    λ each. parts_of each bytes fixed rest is_fixed
     ∙ ap (λ (begun : Begun (Option AttestedParts)). count_where is_attested (count_key each) rest
     + behind_attested each fixed begun) given in
     record {
@@ -151,7 +141,7 @@ least_of : (m n old mid new : ℕ) → (0 < m → raised old 1 ≤ mid) → (0 <
 least_of m n old mid new first second up rise some = grind arith
 
 -- both steps, and what they count
-record Steps {A B : Type 0} (bytes : List ℕ) (fixed : DataParts) (rest : List ℕ) (x : A) (behind : Bor (List ℕ))
+pub record Steps {A B : Type 0} (bytes : List ℕ) (fixed : DataParts) (rest : List ℕ) (x : A) (behind : Bor (List ℕ))
     (old mid new : Count) (last : Result (B × Bor (List ℕ)) CoseError) : Type 0 where
   first : Counts (λ each. count_where (has_flag attested_flag fixed.flags) (count_key each) rest) rest old mid
       (Ok (x, behind))
@@ -161,61 +151,38 @@ record Steps {A B : Type 0} (bytes : List ℕ) (fixed : DataParts) (rest : List 
       (count_key each) rest + count_where (has_flag extensions_flag fixed.flags) each behind.now
   shorter : length rest ≤ length bytes
 
-steps : {A B : Type 0} (bytes : List ℕ) (fixed : DataParts) (rest : List ℕ) (is_attested has_extensions : Bool)
-    (attested : Option AttestedParts) (x : A) (behind : Bor (List ℕ)) (old mid new : Count)
-    (last : Result (B × Bor (List ℕ)) CoseError) → Ok (fixed, rest) ≡ fixed_at bytes
-    → is_attested ≡ has_flag attested_flag fixed.flags → has_extensions ≡ has_flag extensions_flag fixed.flags
-    → ReadsWhere is_attested ReadsAttested rest (Ok (attested, behind.now))
-    → Counts (λ each. count_where is_attested (count_key each) rest) rest old mid (Ok (x, behind))
-    → Counts (λ each. count_where has_extensions each behind.now) behind.now mid new last
+pub steps : {A B : Type 0} (bytes : List ℕ) (fixed : DataParts) (rest : List ℕ) (attested : Option AttestedParts)
+    (x : A) (behind : Bor (List ℕ)) (old mid new : Count) (last : Result (B × Bor (List ℕ)) CoseError)
+    → Ok (fixed, rest) ≡ fixed_at bytes
+    → ReadsWhere (has_flag attested_flag fixed.flags) ReadsAttested rest (Ok (attested, behind.now))
+    → Counts (λ each. count_where (has_flag attested_flag fixed.flags) (count_key each) rest) rest old mid
+    (Ok (x, behind))
+    → Counts (λ each. count_where (has_flag extensions_flag fixed.flags) each behind.now) behind.now mid new last
     → Steps bytes fixed rest x behind old mid new last
-steps bytes fixed rest is_attested has_extensions attested x behind old mid new last is_fixed at ed reads first
-    second =
-    let reads_attested : ReadsWhere (has_flag attested_flag fixed.flags) ReadsAttested rest (Ok (
-      attested,
-      behind.now,
-    )) = subst (λ (b : Bool). ReadsWhere b ReadsAttested rest (Ok (attested, behind.now))) at reads in
-    record {
-      first = subst (λ (b : Bool). Counts (λ each. count_where b (count_key each) rest) rest old mid
-          (Ok (x, behind))) at first;
-      second =
-          subst (λ (b : Bool). Counts (λ each. count_where b each behind.now) behind.now mid new last) ed second;
-      both = λ each. counts_of each bytes fixed rest attested behind.now is_fixed reads_attested;
-      shorter = fixed_shrink bytes fixed rest is_fixed;
-    }
+steps bytes fixed rest attested x behind old mid new last is_fixed reads first second = record {
+  first = first;
+  second = second;
+  both = λ each. counts_of each bytes fixed rest attested behind.now is_fixed reads;
+  shorter = fixed_shrink bytes fixed rest is_fixed;
+}
 
-pub totals : {A B : Type 0} (bytes : List ℕ) (fixed : DataParts) (rest : List ℕ) (is_attested has_extensions : Bool)
-    (attested : Option AttestedParts) (x : A) (behind : Bor (List ℕ)) (old mid new : Count)
-    (last : Result (B × Bor (List ℕ)) CoseError) → Ok (fixed, rest) ≡ fixed_at bytes
-    → is_attested ≡ has_flag attested_flag fixed.flags → has_extensions ≡ has_flag extensions_flag fixed.flags
-    → ReadsWhere is_attested ReadsAttested rest (Ok (attested, behind.now))
-    → Counts (λ each. count_where is_attested (count_key each) rest) rest old mid (Ok (x, behind))
-    → Counts (λ each. count_where has_extensions each behind.now) behind.now mid new last → Totals bytes old new
-totals bytes fixed rest is_attested has_extensions attested x behind old mid new last is_fixed at ed reads first
-    second =
-    let s = steps bytes fixed rest is_attested has_extensions attested x behind old mid new last is_fixed at ed
-    reads first second in
-    record {
-      heads = omega (arith, s.first.heads, s.second.heads, s.shorter);
-      nodes = omega (arith, s.first.nodes, s.second.nodes, s.both front_nodes);
-      least = λ some. least_of _ _ old.heads mid.heads new.heads s.first.least s.second.least s.first.heads_rise
-          s.second.heads_rise (rw (sym (s.both one)) some);
-      heads_rise = omega (arith, s.first.heads_rise, s.second.heads_rise);
-      nodes_rise = omega (arith, s.first.nodes_rise, s.second.nodes_rise);
-    }
+pub totals : {A B : Type 0} (bytes : List ℕ) (fixed : DataParts) (rest : List ℕ) (x : A) (behind : Bor (List ℕ))
+    (old mid new : Count) (last : Result (B × Bor (List ℕ)) CoseError)
+    → Steps bytes fixed rest x behind old mid new last → CountsData bytes old new
+totals bytes fixed rest x behind old mid new last s = record {
+  heads = omega (arith, s.first.heads, s.second.heads, s.shorter);
+  nodes = omega (arith, s.first.nodes, s.second.nodes, s.both front_nodes);
+  least = λ some. least_of _ _ old.heads mid.heads new.heads s.first.least s.second.least s.first.heads_rise
+      s.second.heads_rise (rw (sym (s.both one)) some);
+  heads_rise = omega (arith, s.first.heads_rise, s.second.heads_rise);
+  nodes_rise = omega (arith, s.first.nodes_rise, s.second.nodes_rise);
+}
 
-pub all_counted : {A B : Type 0} (bytes : List ℕ) (fixed : DataParts) (rest : List ℕ)
-    (is_attested has_extensions : Bool) (attested : Option AttestedParts) (x : A) (behind : Bor (List ℕ))
-    (old mid new : Count) (last : Result (B × Bor (List ℕ)) CoseError) → Ok (fixed, rest) ≡ fixed_at bytes
-    → is_attested ≡ has_flag attested_flag fixed.flags → has_extensions ≡ has_flag extensions_flag fixed.flags
-    → ReadsWhere is_attested ReadsAttested rest (Ok (attested, behind.now))
-    → Counts (λ each. count_where is_attested (count_key each) rest) rest old mid (Ok (x, behind))
-    → Counts (λ each. count_where has_extensions each behind.now) behind.now mid new last
+pub all_counted : {A B : Type 0} (bytes : List ℕ) (fixed : DataParts) (rest : List ℕ) (x : A)
+    (behind : Bor (List ℕ)) (old mid new : Count) (last : Result (B × Bor (List ℕ)) CoseError)
+    → Steps bytes fixed rest x behind old mid new last
     → UnlessOutOfMemory last (CountsEach (λ each. count_data each bytes) old new)
-all_counted bytes fixed rest is_attested has_extensions attested x behind old mid new last is_fixed at ed reads first
-    second =
-    let s = steps bytes fixed rest is_attested has_extensions attested x behind old mid new last is_fixed at ed
-    reads first second in
+all_counted bytes fixed rest x behind old mid new last s =
     unless_map last (CountsEach (λ each. count_where (has_flag extensions_flag fixed.flags) each behind.now) mid new)
     (CountsEach (λ each. count_data each bytes) old new) s.second.all (λ p. record {
       heads = omega (arith, s.first.all.heads, p.heads, s.both front_heads);

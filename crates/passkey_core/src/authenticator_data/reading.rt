@@ -7,7 +7,8 @@ ghost use Rattle.passkey_cbor.specs.CursorState.{raised};
 ghost use Rattle.passkey_cose.specs.Key.{key_parts};
 ghost use Rattle.passkey_cose.specs.KeyReading.{read_key};
 ghost use Rattle.passkey_core.specs.DataAnswers.{Returns};
-ghost use Rattle.passkey_core.specs.DataCounts.{Counts, CountsEach, UnlessOutOfMemory};
+ghost use Rattle.passkey_core.specs.DataCounts.{Counts, CountsData, CountsEach, UnlessOutOfMemory};
+ghost use Rattle.passkey_core.specs.DataFlags.{attested_flag, extensions_flag, has_flag};
 ghost use Rattle.passkey_core.specs.DataNodes.{count_data, count_key, count_where, data_nodes, data_places};
 ghost use Rattle.passkey_core.specs.DataReading.{bytes_at, fixed_at, ids_at, read_map, ReadsItem, ReadsAttested, ReadsWhere, ReadsData, ReadsDataFront, ReadsDataExactly, AttestedGrows, DataGrows};
 ghost use Rattle.passkey_core.specs.DataViews.{attested_parts, data_parts};
@@ -150,18 +151,18 @@ fn read_attested<'a>(
 
 fn read_attested_where<'a>(
     alloc: Global,
-    is_there: bool,
+    flags: Flags,
     bytes: &'a [u8],
     count: &mut Count,
 ) -> Begun<'a, Option<AttestedCredentialData>>
-    ensures value { Returns ((is_there ≡ true) × AttestedGrows bytes.now)
+    ensures value { Returns ((has_flag attested_flag flags.0 ≡ true) × AttestedGrows bytes.now)
         (λ r. (option_map attested_parts r.0, r.1.now))
-        (ReadsWhere is_there ReadsAttested bytes.now) result }
-    ensures there { IfErr result (λ e. is_there ≡ true) }
-    ensures counts { Counts (λ each. count_where is_there (count_key each) bytes.now) bytes.now
-        count.old count.new result }
+        (ReadsWhere (has_flag attested_flag flags.0) ReadsAttested bytes.now) result }
+    ensures there { IfErr result (λ e. has_flag attested_flag flags.0 ≡ true) }
+    ensures counts { Counts (λ each. count_where (has_flag attested_flag flags.0) (count_key each) bytes.now)
+        bytes.now count.old count.new result }
 {
-    if !is_there {
+    if !bitflags::Flags::contains(&flags, Flags::AT) {
         return Ok((None, bytes));
     }
     let (attested, rest) = read_attested(alloc, bytes, count)?;
@@ -170,17 +171,17 @@ fn read_attested_where<'a>(
 
 fn read_extensions_where<'a>(
     alloc: Global,
-    is_there: bool,
+    flags: Flags,
     bytes: &'a [u8],
     count: &mut Count,
 ) -> Begun<'a, Option<Value>>
-    ensures value { Returns ((is_there ≡ true) × HasGrowingLeadingItem bytes.now)
+    ensures value { Returns ((has_flag extensions_flag flags.0 ≡ true) × HasGrowingLeadingItem bytes.now)
         (λ r. (option_map item_of r.0, r.1.now))
-        (ReadsWhere is_there (ReadsItem read_map) bytes.now) result }
-    ensures counts { Counts (λ each. count_where is_there each bytes.now) bytes.now
+        (ReadsWhere (has_flag extensions_flag flags.0) (ReadsItem read_map) bytes.now) result }
+    ensures counts { Counts (λ each. count_where (has_flag extensions_flag flags.0) each bytes.now) bytes.now
         count.old count.new result }
 {
-    if !is_there {
+    if !bitflags::Flags::contains(&flags, Flags::ED) {
         return Ok((None, bytes));
     }
     let (extensions, rest) = read_extensions(alloc, bytes, count)?;
@@ -190,26 +191,21 @@ fn read_extensions_where<'a>(
 /// The data, and the bytes after the last part.
 fn read_front<'a>(alloc: Global, bytes: &'a [u8], count: &mut Count) -> Begun<'a, AuthenticatorData>
     ensures value { Returns (DataGrows bytes.now) (λ r. (data_parts r.0, r.1.now)) (ReadsDataFront bytes.now) result }
-    ensures heads { count.new.heads ≤ count.old.heads + (4 * length bytes.now + 4) }
-    ensures nodes { count.new.nodes ≤ count.old.nodes + data_nodes bytes.now }
-    ensures least { 0 < data_places bytes.now → raised count.old.heads 1 ≤ count.new.heads }
+    ensures counts { CountsData bytes.now count.old count.new }
     ensures all { UnlessOutOfMemory result (CountsEach (λ each. count_data each bytes.now) count.old count.new) }
-    ensures heads_rise { count.old.heads ≤ count.new.heads }
-    ensures nodes_rise { count.old.nodes ≤ count.new.nodes }
 {
     let (fixed, rest) = read_fixed(bytes)?;
-    let has_attested = bitflags::Flags::contains(&fixed.flags, Flags::AT);
-    let has_extensions = bitflags::Flags::contains(&fixed.flags, Flags::ED);
-    let (attested, rest) = read_attested_where(alloc, has_attested, rest, count)?;
-    let (extensions, last) = match read_extensions_where(alloc, has_extensions, rest, count) {
+    let (attested, rest) = read_attested_where(alloc, fixed.flags, rest, count)?;
+    let (extensions, last) = match read_extensions_where(alloc, fixed.flags, rest, count) {
         Ok(parts) => parts,
         Err(e) => {
             drop(attested);
             return Err(e);
         }
     };
+    let rp_id_hash = fixed.rp_id_hash;
     let data = AuthenticatorData {
-        rp_id_hash: fixed.rp_id_hash,
+        rp_id_hash,
         flags: fixed.flags,
         counter: Some(fixed.counter),
         attested_credential_data: attested,
