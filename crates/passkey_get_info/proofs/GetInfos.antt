@@ -14,9 +14,6 @@ use Rattle.passkey_kinds.specs.Coded as coded
 use Rattle.passkey_kinds.specs.Typed as typed
 use Rattle.passkey_kinds.specs.Record.{default}
 use Rattle.passkey_kinds.proofs.Back.{Puts}
-use Rattle.passkey_kinds.specs.Record.{Fields, accepts_at, put_at, rows_of, takes_at}
-use Rattle.passkey_kinds.specs.RecordReading.{Puts as RowPuts}
-use Rattle.passkey_kinds.specs.declared.fault.Refusal.{Refusal}
 
 -- ---- values in an authenticatorGetInfo response can be decoded again from their encodings
 
@@ -59,14 +56,6 @@ options_law = lawful 0 options (λ o. refl) (λ o. refl) (λ o. refl) (λ k o. s
     flag_row _ refl ▸ flag_row _ refl ▸ flag_row _ refl ▸ flag_row _ refl ▸ flag_row _ refl ▸ flag_row _ refl ▸
     flag_row _ refl ▸ flag_row _ refl ▸ flag_row _ refl ▸ flag_row _ refl ▸ flag_row _ refl ▸ flag_row _ refl
     ▸ flag_row _ refl ▸ no_more)
-
--- ---- decoding the value of a row
--- tables that have the same row of this number put the same
-pub puts_same : {P : Type 0} (t u : Fields P) (n : ℕ) (i : Item) (old new : P) (result : Result (Unit {0}) Refusal)
-    → accepts_at (rows_of u.rows) n i ≡ accepts_at (rows_of t.rows) n i → put_at u.rows n i old ≡ put_at t.rows n i old
-    → takes_at (rows_of u.rows) n ≡ takes_at (rows_of t.rows) n
-    → RowPuts t n i old new result → RowPuts u n i old new result
-puts_same t u n i old new result accepts puts takes h = grind arith
 
 -- ---- the certifications that a response keeps, and what is encoded around them
 

@@ -1,1 +1,2 @@
 pub mod GetInfos
+pub mod Groups

@@ -1,5 +1,5 @@
-use Rattle.passkey_kinds.proofs.Steps.{◌==◌, ◌++◌, arith, false, ℕ, Item, List, Option, true, map, option_map, refl, ap, each_same, sets_put}
-use Rattle.passkey_get_info.specs.GetInfo.{GetInfoParts, get_info_empty, get_info_fields, get_info_parts, extension, middle_members, last_members}
+use Rattle.passkey_kinds.proofs.Steps.{◌++◌, arith, ℕ, Item, List, Option, true, map, option_map, refl, ap, each_same, sets_put}
+use Rattle.passkey_get_info.specs.GetInfo.{GetInfoParts, get_info_empty, get_info_fields, get_info_parts, extension, first_members, middle_members, last_members}
 use Rattle.passkey_get_info.specs.declared.extension.Extension.{Extension}
 use Rattle.passkey_kinds.specs.Typed.{accepted, below, list, optional, text_as, tolerated}
 use Rattle.passkey_kinds.specs.Coded.{transport, plain, parameters}
@@ -8,8 +8,8 @@ use Rattle.passkey_kinds.specs.Record.{accepts_at, put_at, rows_of, set_with, ta
 use Rattle.passkey_kinds.specs.RecordReading.{Puts, Sets}
 use Rattle.passkey_kinds.specs.declared.fault.Refusal.{Refusal}
 use Rattle.std.specs.Prelude.{◌≡◌, Result, is_some}
-use Rattle.passkey_kinds.specs.Placed.{fields_with}
-use Rattle.passkey_get_info.proofs.GetInfos.{puts_same}
+use Rattle.passkey_get_info.proofs.Groups.{IsNone, puts_behind, same_behind}
+use Rattle.passkey_get_info.proofs.response.ResponseRecord.put.Given as given
 use Rattle.passkey_get_info.proofs.response.ResponseRecord.put.Goals as goal
 
 pub returns-in-2-clause-puts : goal.returns-in-2-clause-puts
@@ -54,31 +54,16 @@ returns-in-10-clause-puts g c = λ i to at.
     c.set_accepted_or_none-in-10.new.field (get_info_parts c.args.self.now) c.set_accepted_or_none-in-10.result
     c.in-10.is i refl refl refl (c.set_accepted_or_none-in-10.ensures.sets i to at)
 
+-- the number is that of none of the first members
+elsewhere : (g : given.Over) (c : goal.After-set_middle_member g) → IsNone first_members c.args.number
+elsewhere g c = grind arith
+
 pub returns-in_default-clause-puts : goal.returns-in_default-clause-puts
 returns-in_default-clause-puts g c = λ i to at.
-    let n1 : (1 == c.args.number) ≡ false = grind arith in
-    let n2 : (2 == c.args.number) ≡ false = grind arith in
-    let n3 : (3 == c.args.number) ≡ false = grind arith in
-    let n4 : (4 == c.args.number) ≡ false = grind arith in
-    let n5 : (5 == c.args.number) ≡ false = grind arith in
-    let n6 : (6 == c.args.number) ≡ false = grind arith in
-    let n9 : (9 == c.args.number) ≡ false = grind arith in
-    let n10 : (10 == c.args.number) ≡ false = grind arith in
-    let these = get_info_fields in
-    let those = fields_with true get_info_empty (middle_members ++ last_members) in
-    puts_same those these c.args.number i _ _ c.set_middle_member.result
-    (rw (n1, n2, n3, n4, n5, n6, n9, n10) refl)
-    (rw (n1, n2, n3, n4, n5, n6, n9, n10) refl)
-    (rw (n1, n2, n3, n4, n5, n6, n9, n10) refl) (c.set_middle_member.ensures.puts i to at)
+    puts_behind true get_info_empty first_members (middle_members ++ last_members) c.args.number i _ _
+    c.set_middle_member.result (elsewhere g c) (c.set_middle_member.ensures.puts i to at)
 
 pub returns-in_default-clause-spends : goal.returns-in_default-clause-spends
 returns-in_default-clause-spends g c = λ i to at.
-    let n1 : (1 == c.args.number) ≡ false = grind arith in
-    let n2 : (2 == c.args.number) ≡ false = grind arith in
-    let n3 : (3 == c.args.number) ≡ false = grind arith in
-    let n4 : (4 == c.args.number) ≡ false = grind arith in
-    let n5 : (5 == c.args.number) ≡ false = grind arith in
-    let n6 : (6 == c.args.number) ≡ false = grind arith in
-    let n9 : (9 == c.args.number) ≡ false = grind arith in
-    let n10 : (10 == c.args.number) ≡ false = grind arith in
-    rw (n1, n2, n3, n4, n5, n6, n9, n10) (c.set_middle_member.ensures.spends i to at)
+    let same = same_behind first_members (middle_members ++ last_members) c.args.number (elsewhere g c) in
+    rw (same.3, same.4, same.5) (c.set_middle_member.ensures.spends i to at)
