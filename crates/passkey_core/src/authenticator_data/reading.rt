@@ -137,13 +137,9 @@ fn read_attested<'a>(
 {
     let ((aaguid, id), rest) = read_ids(bytes)?;
     let (key, rest) = read_key(alloc, rest, count)?;
-    let Ok(credential_id) = Vec::from_slice(alloc, id) else {
-        drop(key);
-        return Err(CoseError::OutOfMemory);
-    };
     let attested = AttestedCredentialData {
         aaguid,
-        credential_id,
+        credential_id: Vec::from_slice(alloc, id)?,
         key,
     };
     Ok((attested, rest))

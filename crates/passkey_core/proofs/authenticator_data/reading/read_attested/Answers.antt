@@ -17,10 +17,12 @@ returns-in_err-aaguid-clause-value c =
     rw told (ids_fail (AttestedGrows c.args.bytes.now) (λ (r : AttestedCredentialData × Bor (List ℕ)).
     (attested_parts r.0, r.1.now)) c.args.bytes.now c.in_err-aaguid.field-0.0 fails)
 
-pub returns-in_default-clause-value : goal.returns-in_default-clause-value
-returns-in_default-clause-value c =
-    attested_grows c.args.bytes.now (c.in_ok-aaguid.aaguid.0, c.in_ok-aaguid.id.now) c.in_ok-aaguid.rest.now
-    (key_parts c.in_ok-key.key) c.in_ok-key.rest.now c.in_ok-aaguid.ensures.value c.in_ok-key.ensures.value
+pub returns-in_err-from_slice-clause-value : goal.returns-in_err-from_slice-clause-value
+returns-in_err-from_slice-clause-value c =
+    let told : c.from_residual-in_err-from_slice.result ≡ Err OutOfMemory = search rules in
+    rw told
+    (attested_grows c.args.bytes.now (c.in_ok-aaguid.aaguid.0, c.in_ok-aaguid.id.now) c.in_ok-aaguid.rest.now
+    (key_parts c.in_ok-key.key) c.in_ok-key.rest.now c.in_ok-aaguid.ensures.value c.in_ok-key.ensures.value)
 
 pub returns-in_err-aaguid-clause-counts : goal.returns-in_err-aaguid-clause-counts
 returns-in_err-aaguid-clause-counts c =
@@ -39,13 +41,14 @@ returns-in_err-key-clause-counts c =
     rw told (counts_failed (λ each. count_key each c.args.bytes.now) c.args.bytes.now c.args.count.now
     c.read_key.new.count c.in_err-key.field-0.0 behind)
 
-pub returns-in_default-clause-counts : goal.returns-in_default-clause-counts
-returns-in_default-clause-counts c =
-    counts_refused (λ each. count_key each c.args.bytes.now) c.args.bytes.now c.args.count.now
+pub returns-in_err-from_slice-clause-counts : goal.returns-in_err-from_slice-clause-counts
+returns-in_err-from_slice-clause-counts c =
+    let told : c.from_residual-in_err-from_slice.result ≡ Err OutOfMemory = search rules in
+    rw told (counts_refused (λ each. count_key each c.args.bytes.now) c.args.bytes.now c.args.count.now
     c.read_key.new.count (c.in_ok-key.key, c.in_ok-key.rest) OutOfMemory
     (counts_behind_ids c.args.bytes.now (c.in_ok-aaguid.aaguid.0, c.in_ok-aaguid.id.now) c.in_ok-aaguid.rest.now
     c.args.count.now c.read_key.new.count (Ok (c.in_ok-key.key, c.in_ok-key.rest)) c.in_ok-aaguid.ensures.value
-    c.in_ok-key.ensures.counts)
+    c.in_ok-key.ensures.counts))
 
 pub returns-clause-counts : goal.returns-clause-counts
 returns-clause-counts c =
