@@ -1,5 +1,6 @@
 -- Writing the items of an array and the pairs of a map, one after the other.
-use Rattle.std.proofs.Common.{◌≡◌, ℕ, ◌<◌, ◌^◌, List, ◌++◌, length, map, sym, ap, ◌∙◌, arith, append_assoc}
+use Rattle.std.proofs.Common.{◌≡◌, ℕ, suc, ◌+◌, ◌<◌, ◌^◌, List, ◌∷◌, ◌++◌, length, get_or, map, drop, drop-cons, sym, ap, ◌∙◌, arith, append_assoc}
+use Rattle.std.proofs.Math.Numerals.{add-one}
 use Rattle.std.proofs.lemmas.List.{length-map}
 use Rattle.passkey_cbor.specs.Item as spec
 use Rattle.passkey_cbor.specs.Item.{Item, Items, Pairs, item, pair, no_items, no_pairs, items_of, pairs_of}
@@ -32,6 +33,25 @@ writes_items-begin tree xs old new fits e =
           ∙ ap (λ (n : ℕ). old ++ (shortest_head 4 n ++ items_written all)) (sym len);
       writable = λ h. (omega (arith, len, fits), h);
     }
+
+-- one more item
+writes_items-more : (all rest : Items) (x : Item) (old now new : List ℕ) → new ≡ now ++ written x → IsWritable x
+    → WritesItems all (item x rest) old now → WritesItems all rest old new
+writes_items-more all rest x old now new e fits h = record {
+  appended = ap (λ (s : List ℕ). s ++ items_written rest) e ∙ append_assoc now (written x) (items_written rest)
+      ∙ h.appended;
+  writable = λ others. h.writable (fits, others);
+}
+
+-- that of the element at an index
+pub writes_items-more_at : {X : Type 0} (tree : X → Item) (xs : List X) (i : ℕ) (x : X) (all : Items)
+    (old now new : List ℕ) → x ≡ get_or xs i x → i < length xs → new ≡ now ++ written (tree x) → IsWritable (tree x)
+    → WritesItems all (items_of (map tree (drop i xs))) old now
+    → WritesItems all (items_of (map tree (drop (i + 1) xs))) old new
+writes_items-more_at tree xs i x all old now new is within e fits h =
+    let rest : drop i xs ≡ x ∷ drop (i + 1) xs =
+    rw add-one (drop-cons xs i x within ∙ ap (λ y. y ∷ drop (suc i) xs) (sym is)) in
+    writes_items-more all _ (tree x) old now new e fits (rw rest at h)
 
 -- nothing but the head of a map of these members
 pub writes_pairs-begin : (ps : List (Value × Value)) (old new : List ℕ) → length ps < 2 ^ 64

@@ -15,7 +15,7 @@ pub use Rattle.passkey_cbor.proofs.More.{split}
 pub use Rattle.passkey_cbor.proofs.Pieces.{lends_start, lends_on, lends_all}
 pub use Rattle.passkey_cbor.proofs.Strings.{AChunk, follows_chunk, string_again}
 pub use Rattle.passkey_cbor.proofs.Views.{item_of-Array, item_of-Map, item_of-Bytes}
-pub use Rattle.passkey_cbor.proofs.Writing.{WritesItems, writes_items-begin}
+pub use Rattle.passkey_cbor.proofs.Writing.{WritesItems, writes_items-begin, writes_items-more_at}
 pub use Rattle.passkey_cbor.specs.Canonical.{ComesAfter, AscendFrom, Ascend, IsOrdered, AreOrdered, ArePairsOrdered, IsCanonical}
 pub use Rattle.passkey_cbor.specs.Depth.{depth, pairs_depth, items_depth}
 pub use Rattle.passkey_cbor.specs.EncodedAt.{IsEncodedAt, Lies, Next, Looks, Opens, Walks, PairsAreEncodedAt}

@@ -1,4 +1,4 @@
-use Rattle.passkey_kinds.proofs.Steps.{rules, arith}
+use Rattle.passkey_kinds.proofs.Steps.{rules}
 use Rattle.passkey_webauthn.specs.NameLaws.{one_more_text}
 use Rattle.passkey_kinds.proofs.names.names_of.Goals as goal
 
