@@ -80,12 +80,15 @@ some_further ps ms ns all m other at done =
     subst (λ (os : Members). 0 < length os) (take_further ps ms ns all m other at done) (some ps (further ns) m)
 
 -- the further parameters that the pairs began with, if one of them is still there
-pub one_left : (ps all : Members) (ms now : List (Value × Value)) (i : ℕ) (m : Value × Value) → i < length ms
-    → m ≡ get_or now i m → drop i now ≡ drop i ms → is_common (item_of m.0) ≡ false
-    → ps ++ further (map pair_of (drop i ms)) ≡ all → 0 < length all
-one_left ps all ms now i m within is left other done =
-    some_further ps (map pair_of (drop i ms)) (map pair_of (drop (i + 1) ms)) all (pair_of m) other
-    (member_at ms i m within (same_at now ms i m is left)) done
+pub one_left : (ps all : Members) (ms now slice : List (Value × Value)) (i end : ℕ) (m : Value × Value) (b : Bool)
+    → i < end → end ≤ length ms → slice ≡ now → m ≡ get_or slice i m → drop i now ≡ drop i ms
+    → b ≡ is_common (item_of (get_or slice i m).0) → b ≡ false → ps ++ further (map pair_of (drop i ms)) ≡ all
+    → 0 < length all
+one_left ps all ms now slice i end m b before within same is left told other done =
+    let is_now : m ≡ get_or now i m = subst (λ (ns : List (Value × Value)). m ≡ get_or ns i m) same is in
+    some_further ps (map pair_of (drop i ms)) (map pair_of (drop (i + 1) ms)) all (pair_of m)
+    (common_at slice i m b false is told other)
+    (member_at ms i m (before_end ms i end before within) (same_at now ms i m is_now left)) done
 
 pub none_left : (ps all : Members) (ms : List (Value × Value)) (i : ℕ) → length ms ≤ i
     → ps ++ further (map pair_of (drop i ms)) ≡ all → ps ≡ all

@@ -34,27 +34,17 @@ label_from-requires c =
 
 pub returns-in_err-label-clause-grows : goal.returns-in_err-label-clause-grows
 returns-in_err-label-clause-grows c =
-    let i = c.loop-i.i in
-    let m = c.index-as_slice-i.result in
-    let within : i < length (values_in c.args.pairs) =
-    before_end _ i _ c.loop-i-test.true c.loop-i.invariant.within in
-    let is : m ≡ get_or (values_in c.loop-i.pairs) i m = rw c.as_slice.ensures at c.index-as_slice-i.is in
-    let other : is_common (item_of m.0) ≡ false =
-    common_at _ i m _ false c.index-as_slice-i.is c.is_common_label_of.ensures c.if-not-is_common_label_of.true in
-    on_err c.from_residual.result (one_left (params_of c.loop-i.params.items) _ _ _ i m within is
-    c.loop-i.invariant.left other c.loop-i.invariant.done)
+    on_err c.from_residual.result (one_left (params_of c.loop-i.params.items) _ _ _ _ c.loop-i.i _
+    c.index-as_slice-i.result _ c.loop-i-test.true c.loop-i.invariant.within c.as_slice.ensures
+    c.index-as_slice-i.is c.loop-i.invariant.left c.is_common_label_of.ensures c.if-not-is_common_label_of.true
+    c.loop-i.invariant.done)
 
 pub returns-in_err-push-clause-grows : goal.returns-in_err-push-clause-grows
 returns-in_err-push-clause-grows c =
-    let i = c.loop-i.i in
-    let m = c.index-as_slice-i.result in
-    let within : i < length (values_in c.args.pairs) =
-    before_end _ i _ c.loop-i-test.true c.loop-i.invariant.within in
-    let is : m ≡ get_or (values_in c.loop-i.pairs) i m = rw c.as_slice.ensures at c.index-as_slice-i.is in
-    let other : is_common (item_of m.0) ≡ false =
-    common_at _ i m _ false c.index-as_slice-i.is c.is_common_label_of.ensures c.if-not-is_common_label_of.true in
-    on_err c.from_residual-in_err-push.result (one_left (params_of c.loop-i.params.items) _ _ _ i m within is
-    c.loop-i.invariant.left other c.loop-i.invariant.done)
+    on_err c.from_residual-in_err-push.result (one_left (params_of c.loop-i.params.items) _ _ _ _ c.loop-i.i _
+    c.index-as_slice-i.result _ c.loop-i-test.true c.loop-i.invariant.within c.as_slice.ensures
+    c.index-as_slice-i.is c.loop-i.invariant.left c.is_common_label_of.ensures c.if-not-is_common_label_of.true
+    c.loop-i.invariant.done)
 
 pub returns-clause-same : goal.returns-clause-same
 returns-clause-same c =
