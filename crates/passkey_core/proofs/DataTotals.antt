@@ -27,22 +27,19 @@ nothing_behind each bytes e h =
     (count_key each) fixed.1 + count_behind (where_at (has_flag attested_flag fixed.0.flags) attested_at
     fixed.1) (λ attested. count_where (has_flag extensions_flag fixed.0.flags) each attested.1))) h
 
-pub totals_fixed : (bytes : List ℕ) (e : CoseError) (count : Count) → fixed_at bytes ≡ Err e
-    → CountsData bytes count count
+pub totals_fixed : {A : Type 0} (bytes : List ℕ) (e : CoseError) (count : Count) → fixed_at bytes ≡ Err e
+    → CountsData {A = A} bytes count count (Err e)
 totals_fixed bytes e count h = record {
   heads = omega arith;
   nodes = omega arith;
   least = λ some. absurd (omega (arith, nothing_behind one bytes e h, some));
+  all = except e (record {
+    heads = omega (arith, nothing_behind front_heads bytes e h);
+    nodes = omega (arith, nothing_behind front_nodes bytes e h);
+  });
   heads_rise = omega arith;
   nodes_rise = omega arith;
 }
-
-pub all_fixed : (bytes : List ℕ) (e : CoseError) (count : Count) → fixed_at bytes ≡ Err e
-    → ExceptOutOfMemory e (CountsEach (λ each. count_data each bytes) count count)
-all_fixed bytes e count h = except e (record {
-  heads = omega (arith, nothing_behind front_heads bytes e h);
-  nodes = omega (arith, nothing_behind front_nodes bytes e h);
-})
 
 -- ---- an error in attested credential data
 
@@ -77,19 +74,6 @@ part_first : (fixed : DataParts) (rest : List ℕ) (is_there : Bool) → is_ther
     → 0 < count_where is_there (count_key one) rest
 part_first fixed rest is_there there = rw there (key_first fixed rest)
 
-pub totals_attested : {A : Type 0} (bytes : List ℕ) (fixed : DataParts) (rest : List ℕ) (e : CoseError)
-    (old new : Count) → Ok (fixed, rest) ≡ fixed_at bytes → has_flag attested_flag fixed.flags ≡ true
-    → Counts {A = A} (λ each. count_where (has_flag attested_flag fixed.flags) (count_key each) rest) rest old new
-    (Err e) → CountsData bytes old new
-totals_attested bytes fixed rest e old new is_fixed there h = record {
-  heads = omega (arith, h.heads, fixed_shrink bytes fixed rest is_fixed);
-  nodes = omega (arith, h.nodes, parts_of front_nodes bytes fixed rest is_fixed);
-  least = λ some. h.least (part_first fixed rest (has_flag attested_flag fixed.flags) there
-      (rw (sym (parts_of one bytes fixed rest is_fixed)) some));
-  heads_rise = h.heads_rise;
-  nodes_rise = h.nodes_rise;
-}
-
 -- what is known of a fault that isn't out of memory
 faulted : {A B : Type 0} (P Q memory : Type 0) (seen : A → B) (answers : Result B CoseError → Type 0)
     (e : CoseError) → Returns memory seen answers (Err e) → ExceptOutOfMemory e P → (answers (Err e) → P → Q)
@@ -100,7 +84,7 @@ faulted P Q memory seen answers cose.OutOfRangeIntegerValue r p f = f r p
 faulted P Q memory seen answers cose.DuplicateMapKey r p f = f r p
 faulted P Q memory seen answers cose.UnexpectedItem r p f = f r p
 
-pub all_attested : {A : Type 0} (memory : Type 0) (seen : A × Bor (List ℕ) → Option AttestedParts × List ℕ)
+all_attested : {A : Type 0} (memory : Type 0) (seen : A × Bor (List ℕ) → Option AttestedParts × List ℕ)
     (bytes : List ℕ) (fixed : DataParts) (rest : List ℕ) (e : CoseError) (old new : Count) → IsBytes bytes
     → Ok (fixed, rest) ≡ fixed_at bytes
     → Returns memory seen (ReadsWhere (has_flag attested_flag fixed.flags) ReadsAttested rest) (Err e)
@@ -122,6 +106,22 @@ all_attested memory seen bytes fixed rest e old new fits is_fixed reads h =
       nodes = omega (arith, p.nodes, parts front_nodes);
     })
 
+pub totals_attested : {A B : Type 0} (memory : Type 0) (seen : A × Bor (List ℕ) → Option AttestedParts × List ℕ)
+    (bytes : List ℕ) (fixed : DataParts) (rest : List ℕ) (e : CoseError) (old new : Count) → IsBytes bytes
+    → Ok (fixed, rest) ≡ fixed_at bytes → has_flag attested_flag fixed.flags ≡ true
+    → Returns memory seen (ReadsWhere (has_flag attested_flag fixed.flags) ReadsAttested rest) (Err e)
+    → Counts {A = A} (λ each. count_where (has_flag attested_flag fixed.flags) (count_key each) rest) rest old new
+    (Err e) → CountsData {A = B} bytes old new (Err e)
+totals_attested memory seen bytes fixed rest e old new fits is_fixed there reads h = record {
+  heads = omega (arith, h.heads, fixed_shrink bytes fixed rest is_fixed);
+  nodes = omega (arith, h.nodes, parts_of front_nodes bytes fixed rest is_fixed);
+  least = λ some. h.least (part_first fixed rest (has_flag attested_flag fixed.flags) there
+      (rw (sym (parts_of one bytes fixed rest is_fixed)) some));
+  all = all_attested memory seen bytes fixed rest e old new fits is_fixed reads h;
+  heads_rise = h.heads_rise;
+  nodes_rise = h.nodes_rise;
+}
+
 -- ---- then the extensions
 
 counts_of : (each : List ℕ → ℕ) (bytes : List ℕ) (fixed : DataParts) (rest : List ℕ)
@@ -141,7 +141,7 @@ least_of : (m n old mid new : ℕ) → (0 < m → raised old 1 ≤ mid) → (0 <
 least_of m n old mid new first second up rise some = grind arith
 
 -- both steps, and what they count
-pub record Steps {A B : Type 0} (bytes : List ℕ) (fixed : DataParts) (rest : List ℕ) (x : A) (behind : Bor (List ℕ))
+record Steps {A B : Type 0} (bytes : List ℕ) (fixed : DataParts) (rest : List ℕ) (x : A) (behind : Bor (List ℕ))
     (old mid new : Count) (last : Result (B × Bor (List ℕ)) CoseError) : Type 0 where
   first : Counts (λ each. count_where (has_flag attested_flag fixed.flags) (count_key each) rest) rest old mid
       (Ok (x, behind))
@@ -151,7 +151,7 @@ pub record Steps {A B : Type 0} (bytes : List ℕ) (fixed : DataParts) (rest : L
       (count_key each) rest + count_where (has_flag extensions_flag fixed.flags) each behind.now
   shorter : length rest ≤ length bytes
 
-pub steps : {A B : Type 0} (bytes : List ℕ) (fixed : DataParts) (rest : List ℕ) (attested : Option AttestedParts)
+steps : {A B : Type 0} (bytes : List ℕ) (fixed : DataParts) (rest : List ℕ) (attested : Option AttestedParts)
     (x : A) (behind : Bor (List ℕ)) (old mid new : Count) (last : Result (B × Bor (List ℕ)) CoseError)
     → Ok (fixed, rest) ≡ fixed_at bytes
     → ReadsWhere (has_flag attested_flag fixed.flags) ReadsAttested rest (Ok (attested, behind.now))
@@ -166,19 +166,7 @@ steps bytes fixed rest attested x behind old mid new last is_fixed reads first s
   shorter = fixed_shrink bytes fixed rest is_fixed;
 }
 
-pub totals : {A B : Type 0} (bytes : List ℕ) (fixed : DataParts) (rest : List ℕ) (x : A) (behind : Bor (List ℕ))
-    (old mid new : Count) (last : Result (B × Bor (List ℕ)) CoseError)
-    → Steps bytes fixed rest x behind old mid new last → CountsData bytes old new
-totals bytes fixed rest x behind old mid new last s = record {
-  heads = omega (arith, s.first.heads, s.second.heads, s.shorter);
-  nodes = omega (arith, s.first.nodes, s.second.nodes, s.both front_nodes);
-  least = λ some. least_of _ _ old.heads mid.heads new.heads s.first.least s.second.least s.first.heads_rise
-      s.second.heads_rise (rw (sym (s.both one)) some);
-  heads_rise = omega (arith, s.first.heads_rise, s.second.heads_rise);
-  nodes_rise = omega (arith, s.first.nodes_rise, s.second.nodes_rise);
-}
-
-pub all_counted : {A B : Type 0} (bytes : List ℕ) (fixed : DataParts) (rest : List ℕ) (x : A)
+all_counted : {A B : Type 0} (bytes : List ℕ) (fixed : DataParts) (rest : List ℕ) (x : A)
     (behind : Bor (List ℕ)) (old mid new : Count) (last : Result (B × Bor (List ℕ)) CoseError)
     → Steps bytes fixed rest x behind old mid new last
     → UnlessOutOfMemory last (CountsEach (λ each. count_data each bytes) old new)
@@ -188,3 +176,25 @@ all_counted bytes fixed rest x behind old mid new last s =
       heads = omega (arith, s.first.all.heads, p.heads, s.both front_heads);
       nodes = omega (arith, s.first.all.nodes, p.nodes, s.both front_nodes);
     })
+
+-- what a result is known of that ends as decoding the extensions did
+pub totals : {A B C : Type 0} (bytes : List ℕ) (fixed : DataParts) (rest : List ℕ) (attested : Option AttestedParts)
+    (x : A) (behind : Bor (List ℕ)) (old mid new : Count) (last : Result (B × Bor (List ℕ)) CoseError)
+    (result : Result C CoseError) → ((P : Type 0) → UnlessOutOfMemory last P → UnlessOutOfMemory result P)
+    → Ok (fixed, rest) ≡ fixed_at bytes
+    → ReadsWhere (has_flag attested_flag fixed.flags) ReadsAttested rest (Ok (attested, behind.now))
+    → Counts (λ each. count_where (has_flag attested_flag fixed.flags) (count_key each) rest) rest old mid
+    (Ok (x, behind))
+    → Counts (λ each. count_where (has_flag extensions_flag fixed.flags) each behind.now) behind.now mid new last
+    → CountsData bytes old new result
+totals bytes fixed rest attested x behind old mid new last result ends is_fixed reads first second =
+    let s = steps bytes fixed rest attested x behind old mid new last is_fixed reads first second in
+    record {
+      heads = omega (arith, s.first.heads, s.second.heads, s.shorter);
+      nodes = omega (arith, s.first.nodes, s.second.nodes, s.both front_nodes);
+      least = λ some. least_of _ _ old.heads mid.heads new.heads s.first.least s.second.least s.first.heads_rise
+          s.second.heads_rise (rw (sym (s.both one)) some);
+      all = ends _ (all_counted bytes fixed rest x behind old mid new last s);
+      heads_rise = omega (arith, s.first.heads_rise, s.second.heads_rise);
+      nodes_rise = omega (arith, s.first.nodes_rise, s.second.nodes_rise);
+    }

@@ -5,7 +5,7 @@ use Rattle.passkey_cbor.specs.CursorState.{raised}
 use Rattle.passkey_cbor.specs.declared.count.Count.{Count}
 use Rattle.passkey_cose.specs.declared.error.CoseError.{CoseError}
 use Rattle.passkey_cose.specs.declared.error.CoseError.TheVariants.{OutOfMemory}
-use Rattle.passkey_core.specs.DataNodes.{data_nodes, data_places, front_heads, front_nodes, one}
+use Rattle.passkey_core.specs.DataNodes.{count_data, data_nodes, data_places, front_heads, front_nodes, one}
 
 -- how many bytes are left after a part; 0 after an error
 abbrev pub bytes_left : {A : Type 0} → Result (A × Bor (List ℕ)) CoseError → ℕ
@@ -39,10 +39,12 @@ pub record Counts {A : Type 0} (places : (List ℕ → ℕ) → ℕ) (bytes : Li
   pub nodes_rise : old.nodes ≤ new.nodes
 
 -- What decoding authenticator data adds: at most four heads for each byte, and four more; at most the data items that
--- it consists of, and at least one head if any is decoded; and neither count decreases.
-pub record CountsData (bytes : List ℕ) (old new : Count) : Type 0 where
+-- it consists of, and at least one head if any is decoded; unless memory ran out, each head and each data item that was
+-- decoded; and neither count decreases.
+pub record CountsData {A : Type 0} (bytes : List ℕ) (old new : Count) (result : Result A CoseError) : Type 0 where
   pub heads : new.heads ≤ old.heads + (4 * length bytes + 4)
   pub nodes : new.nodes ≤ old.nodes + data_nodes bytes
   pub least : 0 < data_places bytes → raised old.heads 1 ≤ new.heads
+  pub all : UnlessOutOfMemory result (CountsEach (λ each. count_data each bytes) old new)
   pub heads_rise : old.heads ≤ new.heads
   pub nodes_rise : old.nodes ≤ new.nodes

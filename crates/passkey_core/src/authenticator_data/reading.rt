@@ -187,8 +187,7 @@ fn read_extensions_where<'a>(
 /// The data, and the bytes after the last part.
 fn read_front<'a>(alloc: Global, bytes: &'a [u8], count: &mut Count) -> Begun<'a, AuthenticatorData>
     ensures value { Returns (DataGrows bytes.now) (λ r. (data_parts r.0, r.1.now)) (ReadsDataFront bytes.now) result }
-    ensures counts { CountsData bytes.now count.old count.new }
-    ensures all { UnlessOutOfMemory result (CountsEach (λ each. count_data each bytes.now) count.old count.new) }
+    ensures counts { CountsData bytes.now count.old count.new result }
 {
     let (fixed, rest) = read_fixed(bytes)?;
     let (attested, rest) = read_attested_where(alloc, fixed.flags, rest, count)?;

@@ -12,7 +12,7 @@ use Rattle.passkey_core.specs.DataReading.{Begun, fixed_at, AttestedGrows, DataG
 use Rattle.passkey_core.specs.DataFlags.{attested_flag, has_flag}
 use Rattle.passkey_core.specs.DataViews.{attested_parts, data_parts}
 use Rattle.passkey_core.proofs.DataReadings.{fixed_fails, extensions_fail}
-use Rattle.passkey_core.proofs.DataTotals.{totals_fixed, totals_attested, steps, totals, all_fixed, all_attested, all_counted}
+use Rattle.passkey_core.proofs.DataTotals.{totals_fixed, totals_attested, totals}
 use Rattle.passkey_core.proofs.authenticator_data.reading.read_front.Goals as goal
 
 abbrev front_of : DataParts → List ℕ → Begun DataParts
@@ -37,30 +37,21 @@ returns-in_err-fixed-clause-value c =
 
 pub returns-in_err-fixed-clause-counts : goal.returns-in_err-fixed-clause-counts
 returns-in_err-fixed-clause-counts c =
-    totals_fixed c.args.bytes.now c.in_err-fixed.field-0.0 c.args.count.now (sym c.in_err-fixed.ensures)
-
-pub returns-in_err-fixed-clause-all : goal.returns-in_err-fixed-clause-all
-returns-in_err-fixed-clause-all c =
     let told : c.from_residual.result ≡ Err c.in_err-fixed.field-0.0 = search rules in
-    rw told (all_fixed c.args.bytes.now c.in_err-fixed.field-0.0 c.args.count.now (sym c.in_err-fixed.ensures))
+    rw told (totals_fixed c.args.bytes.now c.in_err-fixed.field-0.0 c.args.count.now (sym c.in_err-fixed.ensures))
 
 -- ---- an error in attested credential data
 
 pub returns-in_err-attested-clause-counts : goal.returns-in_err-attested-clause-counts
 returns-in_err-attested-clause-counts c =
-    totals_attested c.args.bytes.now (fixed_parts c.in_ok-fixed.fixed) c.in_ok-fixed.rest.now
-    c.in_err-attested.field-0.0 c.args.count.now c.read_attested_where.new.count c.in_ok-fixed.ensures
-    c.in_err-attested.ensures.there c.in_err-attested.ensures.counts
-
-pub returns-in_err-attested-clause-all : goal.returns-in_err-attested-clause-all
-returns-in_err-attested-clause-all c =
     let p = err_from_is_err_and c.from_residual-in_err-attested.result c.from_residual-in_err-attested.ensures.1 in
     let told : c.from_residual-in_err-attested.result ≡ Err c.in_err-attested.field-0.0 = p.1 ∙ ap Err p.2 in
     let fits : IsBytes c.args.bytes.now = search rules in
-    rw told (all_attested ((has_flag attested_flag c.in_ok-fixed.fixed.flags.0 ≡ true)
+    rw told (totals_attested ((has_flag attested_flag c.in_ok-fixed.fixed.flags.0 ≡ true)
     × AttestedGrows c.in_ok-fixed.rest.now) attested_view c.args.bytes.now (fixed_parts c.in_ok-fixed.fixed)
     c.in_ok-fixed.rest.now c.in_err-attested.field-0.0 c.args.count.now c.read_attested_where.new.count fits
-    c.in_ok-fixed.ensures c.in_err-attested.ensures.value c.in_err-attested.ensures.counts)
+    c.in_ok-fixed.ensures c.in_err-attested.ensures.there c.in_err-attested.ensures.value
+    c.in_err-attested.ensures.counts)
 
 -- ---- an error in the extensions
 
@@ -72,30 +63,18 @@ returns-in-Err-clause-value c =
 
 pub returns-in-Err-clause-counts : goal.returns-in-Err-clause-counts
 returns-in-Err-clause-counts c =
-    totals c.args.bytes.now (fixed_parts c.in_ok-fixed.fixed) c.in_ok-fixed.rest.now c.in_ok-attested.attested
-    c.in_ok-attested.rest c.args.count.now c.read_attested_where.new.count c.read_extensions_where.new.count _
-    (steps _ _ _ (option_map attested_parts c.in_ok-attested.attested) _ _ _ _ _ _ c.in_ok-fixed.ensures
-    c.in_ok-attested.ensures.value c.in_ok-attested.ensures.counts c.in-Err.ensures.counts)
-
-pub returns-in-Err-clause-all : goal.returns-in-Err-clause-all
-returns-in-Err-clause-all c =
-    all_counted c.args.bytes.now (fixed_parts c.in_ok-fixed.fixed) c.in_ok-fixed.rest.now c.in_ok-attested.attested
-    c.in_ok-attested.rest c.args.count.now c.read_attested_where.new.count c.read_extensions_where.new.count
-    (Err c.in-Err.e) (steps _ _ _ (option_map attested_parts c.in_ok-attested.attested) _ _ _ _ _ _
-    c.in_ok-fixed.ensures c.in_ok-attested.ensures.value c.in_ok-attested.ensures.counts c.in-Err.ensures.counts)
+    totals c.args.bytes.now (fixed_parts c.in_ok-fixed.fixed) c.in_ok-fixed.rest.now
+    (option_map attested_parts c.in_ok-attested.attested) c.in_ok-attested.attested c.in_ok-attested.rest
+    c.args.count.now c.read_attested_where.new.count c.read_extensions_where.new.count (Err c.in-Err.e) _
+    (λ P p. p) c.in_ok-fixed.ensures c.in_ok-attested.ensures.value c.in_ok-attested.ensures.counts
+    c.in-Err.ensures.counts
 
 -- ---- no error
 
 pub returns-clause-counts : goal.returns-clause-counts
 returns-clause-counts c =
-    totals c.args.bytes.now (fixed_parts c.in_ok-fixed.fixed) c.in_ok-fixed.rest.now c.in_ok-attested.attested
-    c.in_ok-attested.rest c.args.count.now c.read_attested_where.new.count c.read_extensions_where.new.count _
-    (steps _ _ _ (option_map attested_parts c.in_ok-attested.attested) _ _ _ _ _ _ c.in_ok-fixed.ensures
-    c.in_ok-attested.ensures.value c.in_ok-attested.ensures.counts c.in-Ok.ensures.counts)
-
-pub returns-clause-all : goal.returns-clause-all
-returns-clause-all c =
-    all_counted c.args.bytes.now (fixed_parts c.in_ok-fixed.fixed) c.in_ok-fixed.rest.now c.in_ok-attested.attested
-    c.in_ok-attested.rest c.args.count.now c.read_attested_where.new.count c.read_extensions_where.new.count _
-    (steps _ _ _ (option_map attested_parts c.in_ok-attested.attested) _ _ _ _ _ _ c.in_ok-fixed.ensures
-    c.in_ok-attested.ensures.value c.in_ok-attested.ensures.counts c.in-Ok.ensures.counts)
+    totals c.args.bytes.now (fixed_parts c.in_ok-fixed.fixed) c.in_ok-fixed.rest.now
+    (option_map attested_parts c.in_ok-attested.attested) c.in_ok-attested.attested c.in_ok-attested.rest
+    c.args.count.now c.read_attested_where.new.count c.read_extensions_where.new.count (Ok c.in-Ok.parts) _
+    (λ P p. p) c.in_ok-fixed.ensures c.in_ok-attested.ensures.value c.in_ok-attested.ensures.counts
+    c.in-Ok.ensures.counts
