@@ -5,9 +5,8 @@ use passkey_types::ctap2::Fault;
 use passkey_types::ctap2::get_info::Response;
 use std::alloc::Global;
 
-/// Returns whether the authenticator with this authenticatorGetInfo response can verify its user by
-/// itself. Returns the fault of `Response::from_slice` if the bytes don't begin with such a
-/// response.
+/// Returns whether the authenticator of this authenticatorGetInfo response can verify its user by
+/// itself, or the response's first fault.
 pub fn verifies_users(alloc: Global, response: &[u8]) -> Result<bool, Fault> {
     let (info, _len) = Response::from_slice(alloc, response)?;
     match info.options {
