@@ -1,4 +1,4 @@
-"""The blocks of code in the documents: what tools/test-docs and tools/test-vendor share."""
+"""What tools take from the documents: the blocks of code, and the version."""
 
 import re
 from pathlib import Path
@@ -27,6 +27,11 @@ class Block(NamedTuple):
             else:
                 found[-1][1].append(line)
         return [(command, "".join(it + "\n" for it in lines)) for command, lines in found]
+
+
+def version():
+    """The newest version that CHANGELOG.md names, which is the one source for it."""
+    return re.search(r"^## \[(\d[^\]]*)\]", (ROOT / "CHANGELOG.md").read_text(encoding="utf-8"), re.M)[1]
 
 
 def blocks(document):
