@@ -1,12 +1,15 @@
-//! Bytes as people paste them: in hexadecimal, base64 or base64url, as a JSON text, or as they are.
+//! Bytes as people paste them: in hexadecimal, as a dump, in base64 or base64url, as a JSON text, or
+//! as they are.
 #![tactic(auto)]
 
+mod dump;
 #[cfg(test)]
 mod tests;
 
 ghost use Rattle.std.specs.Prelude.{◌≡◌, IfOk, flat_map, option_map, string_bytes};
-ghost use Rattle.passkey_inspect_input.specs.Input.{is_space, hex_text, digits_of, hex_bytes, url_symbol, symbol_text, base64_bytes, begins_json, form_of, bytes_as};
+ghost use Rattle.passkey_inspect_input.specs.Input.{is_space, is_separator, hex_text, digits_of, digit_bytes, hex_bytes, url_symbol, symbol_text, base64_bytes, begins_json, form_of, bytes_as};
 
+use dump::{is_dump, spelled};
 use hex::FromHexError;
 use passkey_bytes::encoding;
 use passkey_memory::OutOfMemory;
@@ -15,9 +18,11 @@ use std::alloc::{AllocError, Global};
 /// How an input spells its bytes.
 #[derive(Clone, Copy, Debug, PartialEq, Eq)]
 pub enum Form {
-    /// In hexadecimal, of either case. White space and colons are ignored, and a leading `0x`.
+    /// In hexadecimal, of either case, also as `xxd` and `hexdump -C` dump it. White space, colons,
+    /// quotes and commas are ignored, and a leading `0x`, or `h` as in `h'01'`.
     Hexadecimal,
-    /// In base64 or base64url (RFC 4648, sections 4 and 5), padded or not. White space is ignored.
+    /// In base64 or base64url (RFC 4648, sections 4 and 5), padded or not. White space, double quotes
+    /// and commas are ignored.
     Base64,
     /// The bytes of a JSON text.
     Json,
@@ -32,12 +37,19 @@ fn is_space(byte: u8) -> bool
     matches!(byte, b'\t' | b'\n' | b'\r' | b' ')
 }
 
+/// Returns whether a byte is no part of a number: white space, a colon, a quote or a comma.
+fn is_separator(byte: u8) -> bool
+    ensures { result ≡ is_separator byte }
+{
+    is_space(byte) || matches!(byte, b':' | b'"' | b'\'' | b',')
+}
+
 fn without_separators(alloc: Global, input: &[u8]) -> Result<Vec<u8>, AllocError>
     ensures { IfOk result (λ text. text.items ≡ flat_map hex_text input.now) }
 {
     let mut text = Vec::new(alloc);
     for byte in input {
-        if !is_space(*byte) && *byte != b':' {
+        if !is_separator(*byte) {
             text.push(*byte)?;
         }
     }
@@ -48,23 +60,34 @@ fn digits_of(text: &[u8]) -> &[u8]
     ensures { result.now ≡ digits_of text.now }
 {
     match text {
-        [b'0', b'x' | b'X', digits @ ..] => digits,
+        [b'0', b'x' | b'X', digits @ ..] | [b'h', digits @ ..] => digits,
         _ => text,
     }
 }
 
-/// Returns the bytes that the input spells in hexadecimal of either case, or `None` if it doesn't.
-/// White space and colons are ignored, and `0x` at the beginning. `OutOfMemory` if an allocation
-/// fails.
-pub fn from_hexadecimal(alloc: Global, input: &[u8]) -> Result<Option<Vec<u8>>, OutOfMemory>
-    ensures { IfOk result (λ found. option_map (λ v. v.items) found ≡ hex_bytes input.now) }
+/// Returns the bytes that the text spells in hexadecimal, separators aside.
+fn decoded(alloc: Global, text: &[u8]) -> Result<Option<Vec<u8>>, OutOfMemory>
+    ensures { IfOk result (λ found. option_map (λ v. v.items) found ≡ digit_bytes text.now) }
 {
-    let text = without_separators(alloc, input)?;
-    match hex::decode(alloc, digits_of(text.as_slice())) {
+    let digits = without_separators(alloc, text)?;
+    match hex::decode(alloc, digits_of(digits.as_slice())) {
         Ok(bytes) => Ok(Some(bytes)),
         Err(FromHexError::OutOfMemory) => Err(OutOfMemory),
         Err(_) => Ok(None),
     }
+}
+
+/// Returns the bytes that the input spells in hexadecimal of either case, or `None` if it doesn't. Of
+/// a dump by `xxd` or `hexdump -C` it is what stands between the offsets and the text. White space,
+/// colons, quotes and commas are ignored, and `0x` or `h` at the beginning. `OutOfMemory` if an
+/// allocation fails.
+pub fn from_hexadecimal(alloc: Global, input: &[u8]) -> Result<Option<Vec<u8>>, OutOfMemory>
+    ensures { IfOk result (λ found. option_map (λ v. v.items) found ≡ hex_bytes input.now) }
+{
+    if is_dump(input) {
+        return decoded(alloc, spelled(alloc, input)?.as_slice());
+    }
+    decoded(alloc, input)
 }
 
 fn url_symbol(byte: u8) -> u8
@@ -82,7 +105,7 @@ fn symbols_of(alloc: Global, input: &[u8]) -> Result<String, AllocError>
 {
     let mut text = String::new(alloc);
     for byte in input {
-        if !is_space(*byte) {
+        if !is_space(*byte) && *byte != b'"' && *byte != b',' {
             text.push(char::from(url_symbol(*byte)))?;
         }
     }
@@ -90,8 +113,8 @@ fn symbols_of(alloc: Global, input: &[u8]) -> Result<String, AllocError>
 }
 
 /// Returns the bytes that the input spells in base64 or base64url (RFC 4648, sections 4 and 5), or
-/// `None` if it doesn't. White space is ignored, and each `=` at the end; both alphabets may be
-/// mixed. `OutOfMemory` if an allocation fails.
+/// `None` if it doesn't. White space, double quotes and commas are ignored, and each `=` at the end;
+/// both alphabets may be mixed. `OutOfMemory` if an allocation fails.
 pub fn from_base64(alloc: Global, input: &[u8]) -> Result<Option<Vec<u8>>, OutOfMemory>
     ensures { IfOk result (λ found. option_map (λ v. v.items) found ≡ base64_bytes input.now) }
 {
@@ -125,14 +148,17 @@ pub fn bytes_as(alloc: Global, form: Form, input: &[u8]) -> Result<Option<Vec<u8
     }
 }
 
-/// Returns the form of the input: JSON if it begins as an object, and else the first of hexadecimal
-/// and base64 in which it spells bytes, or else the bytes as they are. `OutOfMemory` if an
-/// allocation fails.
+/// Returns the form of the input: JSON if it begins as an object, hexadecimal if it begins as a dump,
+/// and else the first of hexadecimal and base64 in which it spells bytes, or else the bytes as they
+/// are. `OutOfMemory` if an allocation fails.
 pub fn form_of(alloc: Global, input: &[u8]) -> Result<Form, OutOfMemory>
     ensures { IfOk result (λ form. form ≡ form_of input.now) }
 {
     if begins_json(input) {
         return Ok(Form::Json);
+    }
+    if is_dump(input) {
+        return Ok(Form::Hexadecimal);
     }
     if from_hexadecimal(alloc, input)?.is_some() {
         return Ok(Form::Hexadecimal);

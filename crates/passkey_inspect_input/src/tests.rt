@@ -9,7 +9,15 @@ fn forms_of_the_same_bytes(rt: HostRuntime) -> Result<(), Fail> {
     for (input, want) in [
         ("0xFB ff\n", Form::Hexadecimal),
         ("fb:FF", Form::Hexadecimal),
+        ("h'fb ff',\n", Form::Hexadecimal),
+        ("\"fbff\",", Form::Hexadecimal),
+        ("00000000: fbff                 ..\n", Form::Hexadecimal),
+        (
+            "00000000  fb ff                |..|\n00000002\n",
+            Form::Hexadecimal,
+        ),
         ("+/8=", Form::Base64),
+        ("\"+/8=\",", Form::Base64),
         (" -_8\n", Form::Base64),
     ] {
         let form = form_of(rt.alloc(), input.as_bytes())?;
