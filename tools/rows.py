@@ -4,24 +4,21 @@ import os
 import subprocess
 from pathlib import Path
 
+import kinds
+
 ROOT = Path(__file__).resolve().parent.parent
 SHOW = ROOT / "crates" / "passkey_show" / "out" / "passkey_show"
 FOLDER = ROOT / "crates" / "passkey_rows"
 ROWS = FOLDER / "out" / "passkey_rows"
 
 # The kinds of passkey_show: bytes in hexadecimal, and JSON.
-BYTES = "cbor check auth mc-request mc-response ga-request ga-response info hmac-input".split()
-JSON = "creation request created authenticated client-data".split()
+SHOWN_BYTES, JSON = kinds.of_show()
+BYTES = [*SHOWN_BYTES, "check"]
 SHOWN = BYTES + JSON
 
-# Further kinds of passkey_rows alone: messages, in hexadecimal.
-FURTHER = (
-    "pin-request pin-response bio-request bio-response cm-request cm-response lb-request lb-response lb-entry "
-    "cfg-request cfg-min-pin-length cfg-vendor info-23 mc-inputs mc-outputs mc-unsigned ga-inputs ga-outputs ga-unsigned"
-).split()
-
-# Attestation statements, in hexadecimal. Some faults of a statement are outputs.
-STATEMENTS = [f"att-{it}" for it in "packed tpm android-key android-safetynet fido-u2f none apple compound".split()]
+# The other messages, in hexadecimal, and attestation statements. Some faults of a statement are outputs.
+STATEMENTS = [it for it in kinds.of_bytes() if it.startswith("att-")]
+FURTHER = [it for it in kinds.of_bytes() if it not in SHOWN + STATEMENTS + ["cose-key", "tpm-cert-info", "tpm-pub-area"]]
 
 
 def rows():

@@ -1,5 +1,5 @@
 -- What a call that explains why an input is refused returns, and leaves in the caller's memory.
-use Rattle.std.specs.Prelude.{◌≡◌, ◌-◌, ◌+◌, ◌++◌, ◌⊎◌, ℕ, List, length, take, drop, Bool, true, false, if◌then◌else◌, Option, Some, None, Result, Ok, Err}
+use Rattle.std.specs.Prelude.{◌≡◌, ◌-◌, ◌+◌, ◌++◌, ◌⊎◌, ℕ, List, length, take, drop, Bool, true, false, if◌then◌else◌, Option, Some, None, Result, Ok, Err, ⊤}
 use Rattle.passkey_cbor.specs.Item.{Item}
 use Rattle.passkey_cbor.specs.LeadingItem.{IsLeadingItem}
 use Rattle.passkey_explain.specs.Along.{LiesAlong}
@@ -21,14 +21,13 @@ use Rattle.passkey_kinds.specs.declared.fault.Fault.{Fault}
 use Rattle.passkey_kinds.specs.declared.fault.Fault.TheVariants.{DecodeFailed}
 use Rattle.passkey_malformed.specs.Stops.{IsMalformed}
 use Rattle.passkey_malformed.specs.declared.why.Malformed.{Malformed}
-use Rattle.passkey_rewrite_further.specs.declared.kind.FurtherKind.{FurtherKind}
+use Rattle.passkey_catalogue.specs.Catalogue.{definition}
+use Rattle.passkey_catalogue.specs.declared.form.Form.{Form}
+use Rattle.passkey_catalogue.specs.declared.form.Form.TheVariants as form
+use Rattle.passkey_catalogue.specs.declared.kind.Kind.{Kind}
+use Rattle.passkey_run.specs.Definition.{Definition, authenticator, item, message, other}
 use Rattle.passkey_run.specs.Rewriting.{IsFrontLength}
-use Rattle.passkey_run.specs.declared.kind.BytesKind.{BytesKind}
-use Rattle.passkey_run.specs.declared.kind.BytesKind.TheVariants.{Cbor, Auth}
-use Rattle.passkey_c.specs.OfMessage.{OfMessage, OfFurther}
 use Rattle.passkey_c.specs.Statuses.{data_status, message_status}
-use Rattle.passkey_c.specs.declared.form.Form.{Form}
-use Rattle.passkey_c.specs.declared.form.Form.TheVariants.{Bytes, Further}
 use Rattle.passkey_c.specs.declared.verdict.Refusal.{Refusal}
 use Rattle.passkey_c.specs.declared.verdict.Verdict.{Verdict}
 use Rattle.passkey_c.specs.declared.verdict.Verdict.TheVariants as verdict
@@ -49,23 +48,32 @@ pub record IsTold (Tells : ℕ → Refusal → Type 0) (old new : Memory) (statu
   pub size : new.len ≡ length text
   pub same : new.read ≡ old.read
 
--- Status 0 if so many bytes are accepted; 2 if memory ran out; or the fault's status.
-pub data Explaining (Accepts : ℕ → Type 0) (Tells : ℕ → Refusal → Type 0) (old new : Memory) (status : ℕ) : Type 0
+-- Nothing is written where there is no such kind.
+abbrev pub IsUnknown : Memory → Memory → ℕ → Type 0
+IsUnknown old new status = (status ≡ 3) × (new ≡ old)
+
+-- Status 0 if so many bytes are accepted; 2 if memory ran out; 3 if inputs of the kind aren't explained; or the fault's
+-- status.
+pub data Explaining (Accepts : ℕ → Type 0) (Tells : ℕ → Refusal → Type 0) (IsUnexplained : Type 0)
+    (old new : Memory) (status : ℕ) : Type 0
   where
     accepted : status ≡ 0 → (n : ℕ) → Accepts n → new ≡ record old { read = n }
-        → Explaining Accepts Tells old new status
-    exhausted : status ≡ 2 → new ≡ old → Explaining Accepts Tells old new status
-    told : IsTold Tells old new status → Explaining Accepts Tells old new status
+        → Explaining Accepts Tells IsUnexplained old new status
+    exhausted : status ≡ 2 → new ≡ old → Explaining Accepts Tells IsUnexplained old new status
+    unexplained : IsUnexplained → IsUnknown old new status → Explaining Accepts Tells IsUnexplained old new status
+    told : IsTold Tells old new status → Explaining Accepts Tells IsUnexplained old new status
 
-abbrev pub IsVerdict : (ℕ → Type 0) → (ℕ → Refusal → Type 0) → Verdict → Type 0
-IsVerdict Accepts Tells (verdict.Accepted n) = Accepts n
-IsVerdict Accepts Tells (verdict.Refused r) = Tells r.status r.refusal
+abbrev pub IsVerdict : (ℕ → Type 0) → (ℕ → Refusal → Type 0) → Type 0 → Verdict → Type 0
+IsVerdict Accepts Tells IsUnexplained (verdict.Accepted n) = Accepts n
+IsVerdict Accepts Tells IsUnexplained (verdict.Refused r) = Tells r.status r.refusal
+IsVerdict Accepts Tells IsUnexplained verdict.Unexplained = IsUnexplained
 
 -- what is written of a verdict
 abbrev pub TellsResult : {E : Type 0} → Result Verdict E → Memory → Memory → ℕ → Type 0
 TellsResult (Ok (verdict.Accepted n)) old new status = (status ≡ 0) × (new ≡ record old { read = n })
 TellsResult (Ok (verdict.Refused r)) old new status =
     IsTold (λ s b. (s ≡ r.status) × (b ≡ r.refusal)) old new status
+TellsResult (Ok verdict.Unexplained) old new status = IsUnknown old new status
 TellsResult (Err e) old new status = (status ≡ 2) × (new ≡ old)
 
 -- ---- data items
@@ -156,36 +164,40 @@ pub record TellsData (input : List ℕ) (status : ℕ) (refusal : Refusal) : Typ
   pub fault : status ≡ data_status refused.fault
   pub bytes : refusal ≡ refusal_in (length input) refused
 
--- ---- the kinds
+-- ---- by what the input is
 
--- Nothing is written where there is no such kind.
-abbrev pub IsUnknown : Memory → Memory → ℕ → Type 0
-IsUnknown old new status = (status ≡ 3) × (new ≡ old)
+-- so many bytes are accepted
+abbrev pub AcceptsForm : Form → List ℕ → ℕ → Type 0
+AcceptsForm form.Key = AcceptsKey
+AcceptsForm _ = λ input n. ⊥
 
-abbrev pub ExplainsMessage : {P : Type 0} → Fields P → List ℕ → Memory → Memory → ℕ → Type 0
-ExplainsMessage t input old new status = Explaining (AcceptsMessage t input) (TellsMessage t input) old new status
+abbrev pub Accepts : Definition Form → List ℕ → ℕ → Type 0
+Accepts item = IsFrontLength
+Accepts authenticator = AcceptsData
+Accepts (message t tree) = AcceptsMessage t
+Accepts (other f) = AcceptsForm f
 
-abbrev pub ExplainsItem : List ℕ → Memory → Memory → ℕ → Type 0
-ExplainsItem input old new status = Explaining (IsFrontLength input) (TellsItem input) old new status
+-- this is the fault's status, and these bytes are refused
+abbrev pub TellsForm : Form → List ℕ → ℕ → Refusal → Type 0
+TellsForm form.Key = TellsNoKey
+TellsForm _ = λ input status refusal. ⊥
 
-abbrev pub ExplainsKey : List ℕ → Memory → Memory → ℕ → Type 0
-ExplainsKey input old new status = Explaining (AcceptsKey input) (TellsNoKey input) old new status
+abbrev pub Tells : Definition Form → List ℕ → ℕ → Refusal → Type 0
+Tells item = TellsItem
+Tells authenticator = TellsData
+Tells (message t tree) = TellsMessage t
+Tells (other f) = TellsForm f
 
-abbrev pub ExplainsAuth : List ℕ → Memory → Memory → ℕ → Type 0
-ExplainsAuth input old new status = Explaining (AcceptsData input) (TellsData input) old new status
+-- attestation statements, structures of a TPM and JSON texts aren't explained
+abbrev pub IsUnexplainedForm : Form → Type 0
+IsUnexplainedForm form.Key = ⊥
+IsUnexplainedForm _ = ⊤
 
-abbrev pub ExplainsBytes : BytesKind → List ℕ → Memory → Memory → ℕ → Type 0
-ExplainsBytes Cbor input old new status = ExplainsItem input old new status
-ExplainsBytes Auth input old new status = ExplainsAuth input old new status
-ExplainsBytes kind input old new status =
-    OfMessage (λ P t tree. ExplainsMessage t input old new status) (IsUnknown old new status) kind
+abbrev pub IsUnexplained : Definition Form → Type 0
+IsUnexplained (other f) = IsUnexplainedForm f
+IsUnexplained _ = ⊥
 
-abbrev pub ExplainsFurther : FurtherKind → List ℕ → Memory → Memory → ℕ → Type 0
-ExplainsFurther kind input old new status =
-    OfFurther (λ P t. ExplainsMessage t input old new status) (ExplainsKey input old new status)
-    (IsUnknown old new status) kind
-
-abbrev pub ExplainsAs : Option Form → List ℕ → Memory → Memory → ℕ → Type 0
-ExplainsAs (Some (Bytes kind)) input old new status = ExplainsBytes kind input old new status
-ExplainsAs (Some (Further kind)) input old new status = ExplainsFurther kind input old new status
-ExplainsAs _ input old new status = IsUnknown old new status
+abbrev pub ExplainsAs : Option Kind → List ℕ → Memory → Memory → ℕ → Type 0
+ExplainsAs (Some kind) input old new status =
+    let d = definition kind in Explaining (Accepts d input) (Tells d input) (IsUnexplained d) old new status
+ExplainsAs None input old new status = IsUnknown old new status

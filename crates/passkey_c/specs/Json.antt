@@ -11,34 +11,26 @@ use Rattle.passkey_kinds.specs.Record.{Fields, read_item}
 use Rattle.passkey_kinds.specs.RecordReading.{shape_of}
 use Rattle.passkey_kinds.specs.declared.wanted.Wanted.TheVariants as wanted
 use Rattle.passkey_report.specs.Json.{json_text}
-use Rattle.passkey_rewrite_further.specs.Rewriting.{IsKeyRefusal}
-use Rattle.passkey_rewrite_further.specs.declared.kind.FurtherKind.{FurtherKind}
-use Rattle.passkey_run.specs.Rewriting.{IsCborRefusal, IsDataRefusal, IsMessageRefusal}
-use Rattle.passkey_run.specs.declared.kind.BytesKind.{BytesKind}
-use Rattle.passkey_run.specs.declared.kind.BytesKind.TheVariants.{Cbor, Auth}
-use Rattle.passkey_c.specs.OfMessage.{OfMessage, OfFurther}
-use Rattle.passkey_c.specs.Rewriting.{WritesJsonText}
+use Rattle.passkey_run.specs.Definition.{Definition, authenticator, item, message, other}
+use Rattle.passkey_run.specs.Rewriting.{IsRefusalAs}
+use Rattle.passkey_run.specs.declared.fault.RunFault.{RunFault}
+use Rattle.passkey_run.specs.declared.fault.RunFault.TheVariants.{UnknownKind}
 use Rattle.passkey_c.specs.Writing.{Outputs, Writes, IsUnknown}
-use Rattle.passkey_c.specs.declared.form.Form.{Form}
-use Rattle.passkey_c.specs.declared.form.Form.TheVariants.{Bytes, Json, Further}
+use Rattle.passkey_catalogue.specs.Catalogue.{definition}
+use Rattle.passkey_catalogue.specs.Rewriting.{EncodesForm, IsFormLength, IsKeyRefusal, RefusesForm}
+use Rattle.passkey_catalogue.specs.declared.form.Form.{Form}
+use Rattle.passkey_catalogue.specs.declared.form.Form.TheVariants as form
+use Rattle.passkey_catalogue.specs.declared.kind.Kind.{Kind}
 
 -- A message begins the bytes, and the text is the JSON of its data item, as the message's table describes it.
 abbrev pub IsMessageJson : {P : Type 0} → Fields P → List ℕ → List ℕ → ℕ → Type 0
 IsMessageJson t bytes text read = Begins bytes (λ i len. (read ≡ len) × (is_ok (read_item t i) ≡ true)
     × (text ≡ json_text (described (shape_of t) i)))
 
--- the JSON, or the fault with which the message isn't decoded
-abbrev pub ShowsMessage : {P : Type 0} → Fields P → List ℕ → Outputs → Outputs → ℕ → Type 0
-ShowsMessage t input old new status =
-    Writes (IsMessageJson t input) (IsMessageRefusal (read_item t) input) old new status
-
 -- A data item begins the bytes, and the text is its JSON, as nothing is known of it.
 abbrev pub IsItemJson : List ℕ → List ℕ → ℕ → Type 0
 IsItemJson bytes text read =
     Begins bytes (λ i len. (read ≡ len) × (text ≡ json_text (described_item wanted.Any i)))
-
-abbrev pub ShowsItem : List ℕ → Outputs → Outputs → ℕ → Type 0
-ShowsItem input old new status = Writes (IsItemJson input) (IsCborRefusal input) old new status
 
 -- Authenticator data begin the bytes, and the text is the JSON of their parts.
 pub record IsDataJson (bytes text : List ℕ) (read : ℕ) : Type 0 where
@@ -47,29 +39,38 @@ pub record IsDataJson (bytes text : List ℕ) (read : ℕ) : Type 0 where
   pub shown : text ≡ json_text (described_data parts)
   pub size : IsDataLength bytes read
 
-abbrev pub ShowsData : List ℕ → Outputs → Outputs → ℕ → Type 0
-ShowsData input old new status = Writes (IsDataJson input) (IsDataRefusal input) old new status
-
 -- A COSE key begins the bytes, and the text is the JSON of its parameters.
 abbrev pub IsKeyJson : List ℕ → List ℕ → ℕ → Type 0
 IsKeyJson bytes text read = Begins bytes (λ i len. (read ≡ len) × IsOk (read_key i)
     × (text ≡ json_text (described_key i)))
 
-abbrev pub ShowsKey : List ℕ → Outputs → Outputs → ℕ → Type 0
-ShowsKey input old new status = Writes (IsKeyJson input) (IsKeyRefusal input) old new status
+-- ---- by what the input is
 
-abbrev pub ShowsFurther : FurtherKind → List ℕ → Outputs → Outputs → ℕ → Type 0
-ShowsFurther kind input old new status =
-    OfFurther (λ P t. ShowsMessage t input old new status) (ShowsKey input old new status) (IsUnknown old new status) kind
+-- the JSON of an input of this form, and how many of its bytes it is made from
+abbrev pub IsFormJson : Form → List ℕ → List ℕ → ℕ → Type 0
+IsFormJson form.Key input text n = IsKeyJson input text n
+IsFormJson (form.Json k) input text n = EncodesForm (form.Json k) input text × IsFormLength (form.Json k) input n
+IsFormJson (form.FurtherJson k) input text n =
+    EncodesForm (form.FurtherJson k) input text × IsFormLength (form.FurtherJson k) input n
+IsFormJson _ input text n = ⊥
 
-abbrev pub ShowsBytes : BytesKind → List ℕ → Outputs → Outputs → ℕ → Type 0
-ShowsBytes Cbor input old new status = ShowsItem input old new status
-ShowsBytes Auth input old new status = ShowsData input old new status
-ShowsBytes kind input old new status =
-    OfMessage (λ P t tree. ShowsMessage t input old new status) (IsUnknown old new status) kind
+-- Why there is none. Attestation statements and the structures of a TPM have no JSON.
+abbrev pub HasNoFormJson : Form → List ℕ → RunFault → Type 0
+HasNoFormJson form.Key input fault = IsKeyRefusal input fault
+HasNoFormJson (form.Json k) input fault = RefusesForm (form.Json k) input fault
+HasNoFormJson (form.FurtherJson k) input fault = RefusesForm (form.FurtherJson k) input fault
+HasNoFormJson _ input fault = fault ≡ UnknownKind
 
-abbrev pub ShowsJson : Option Form → List ℕ → Outputs → Outputs → ℕ → Type 0
-ShowsJson (Some (Bytes kind)) input old new status = ShowsBytes kind input old new status
-ShowsJson (Some (Json kind)) input old new status = WritesJsonText kind input old new status
-ShowsJson (Some (Further kind)) input old new status = ShowsFurther kind input old new status
+abbrev pub IsJson : Definition Form → List ℕ → List ℕ → ℕ → Type 0
+IsJson item = IsItemJson
+IsJson authenticator = IsDataJson
+IsJson (message t tree) = IsMessageJson t
+IsJson (other f) = IsFormJson f
+
+abbrev pub HasNoJson : Definition Form → List ℕ → RunFault → Type 0
+HasNoJson d = IsRefusalAs HasNoFormJson d
+
+abbrev pub ShowsJson : Option Kind → List ℕ → Outputs → Outputs → ℕ → Type 0
+ShowsJson (Some kind) input old new status =
+    Writes (IsJson (definition kind) input) (HasNoJson (definition kind) input) old new status
 ShowsJson None input old new status = IsUnknown old new status

@@ -2,15 +2,14 @@
 ghost use Rattle.std.specs.Prelude.{◌≡◌, ℕ, IfOk, Some};
 ghost use Rattle.passkey_cbor.specs.Item.{Item};
 ghost use Rattle.passkey_cbor.specs.LeadingItem.{HasNoLeadingItem, IsLeadingItem};
-ghost use Rattle.passkey_c.specs.Explaining.{AcceptsData, AcceptsKey, AcceptsMessage, ExplainsAs, ExplainsAuth, ExplainsBytes, ExplainsFurther, ExplainsItem, ExplainsKey, ExplainsMessage, IsVerdict, TellsData, TellsItem, TellsKey, TellsMessage, TellsNoKey, bytes_in, fault_of, refusal_in, refusal_of, refused_in_front};
-ghost use Rattle.passkey_c.specs.Forms.{form_numbered};
+ghost use Rattle.passkey_c.specs.Explaining.{Accepts, AcceptsData, AcceptsForm, AcceptsKey, AcceptsMessage, ExplainsAs, IsUnexplained, IsUnexplainedForm, IsVerdict, Tells, TellsData, TellsForm, TellsItem, TellsKey, TellsMessage, TellsNoKey, bytes_in, fault_of, refusal_in, refusal_of, refused_in_front};
+ghost use Rattle.passkey_catalogue.specs.Catalogue.{definition, kind_numbered};
 ghost use Rattle.passkey_explain_data.specs.KeyBlame.{key_blame};
 ghost use Rattle.passkey_run.specs.Rewriting.{IsFrontLength};
 
-use crate::form::{Form, form_of};
-use crate::of_message::{of_further, of_message};
 use crate::status::{data_status, message_status};
 use crate::verdict::{Reason, Refusal, Verdict, refused_from, tell};
+use passkey_catalogue::{Form, Kind, visit};
 use passkey_cbor::{CborError, Value, item_len};
 use passkey_explain::{Explanation, explain};
 use passkey_explain_data::{
@@ -19,8 +18,7 @@ use passkey_explain_data::{
 use passkey_kinds::{Fault, Message};
 use passkey_malformed::malformed;
 use passkey_memory::OutOfMemory;
-use passkey_rewrite_further::FurtherKind;
-use passkey_run::BytesKind;
+use passkey_run::Visitor;
 use std::alloc::Global;
 
 /// Explains why no data item begins the input, and where.
@@ -38,28 +36,12 @@ fn tell_item(alloc: Global, input: &[u8]) -> Result<Reason, OutOfMemory>
 }
 
 fn judge_item(alloc: Global, input: &[u8]) -> Result<Verdict, OutOfMemory>
-    ensures { IfOk result (IsVerdict (IsFrontLength input.now) (TellsItem input.now)) }
+    ensures { IfOk result (IsVerdict (IsFrontLength input.now) (TellsItem input.now) ⊥) }
 {
     match item_len(input) {
         Some(len) => Ok(Verdict::Accepted(len)),
         None => Ok(Verdict::Refused(tell_item(alloc, input)?)),
     }
-}
-
-#[tactic(auto, using(crate::proofs::Explaining::explains_of))]
-fn explain_item(
-    alloc: Global,
-    input: &[u8],
-    read: &mut usize,
-    refusal: &mut Refusal,
-    out: &mut [u8],
-    len: &mut usize,
-) -> u32
-    ensures { ExplainsItem input.now
-        (record { read = read.old; refusal = refusal.old; text = out.old; len = len.old })
-        (record { read = read.new; refusal = refusal.new; text = out.new; len = len.new }) result }
-{
-    tell(judge_item(alloc, input), read, refusal, out, len)
 }
 
 /// Explains why the data item at the beginning of the input isn't a key, and where.
@@ -78,7 +60,7 @@ fn tell_key(alloc: Global, input: &[u8], refused: KeyRefusal) -> Result<Reason, 
 }
 
 fn judge_key(alloc: Global, input: &[u8]) -> Result<Verdict, OutOfMemory>
-    ensures { IfOk result (IsVerdict (AcceptsKey input.now) (TellsNoKey input.now)) }
+    ensures { IfOk result (IsVerdict (AcceptsKey input.now) (TellsNoKey input.now) ⊥) }
 {
     let (value, len) = match Value::from_slice(alloc, input) {
         Ok(front) => front,
@@ -89,21 +71,6 @@ fn judge_key(alloc: Global, input: &[u8]) -> Result<Verdict, OutOfMemory>
         None => Ok(Verdict::Accepted(len)),
         Some(refused) => Ok(Verdict::Refused(tell_key(alloc, input, refused)?)),
     }
-}
-
-fn explain_cose_key(
-    alloc: Global,
-    input: &[u8],
-    read: &mut usize,
-    refusal: &mut Refusal,
-    out: &mut [u8],
-    len: &mut usize,
-) -> u32
-    ensures { ExplainsKey input.now
-        (record { read = read.old; refusal = refusal.old; text = out.old; len = len.old })
-        (record { read = read.new; refusal = refusal.new; text = out.new; len = len.new }) result }
-{
-    tell(judge_key(alloc, input), read, refusal, out, len)
 }
 
 /// Returns the fault that is explained.
@@ -139,7 +106,7 @@ fn front_len(input: &[u8]) -> usize
 
 fn judge_message<M: Message>(alloc: Global, input: &[u8]) -> Result<Verdict, OutOfMemory>
     ensures { IfOk result
-        (IsVerdict (AcceptsMessage M.Record.fields input.now) (TellsMessage M.Record.fields input.now)) }
+        (IsVerdict (AcceptsMessage M.fields input.now) (TellsMessage M.fields input.now) ⊥) }
 {
     let Some(explanation) = explain::<M>(alloc, input)? else {
         return Ok(Verdict::Accepted(front_len(input)));
@@ -150,22 +117,6 @@ fn judge_message<M: Message>(alloc: Global, input: &[u8]) -> Result<Verdict, Out
         refusal: refusal_of(&explanation, input.len()),
         text,
     }))
-}
-
-#[tactic(auto, using(crate::proofs::Explaining::explains_of))]
-fn explain_message<M: Message>(
-    alloc: Global,
-    input: &[u8],
-    read: &mut usize,
-    refusal: &mut Refusal,
-    out: &mut [u8],
-    len: &mut usize,
-) -> u32
-    ensures { ExplainsMessage M.Record.fields input.now
-        (record { read = read.old; refusal = refusal.old; text = out.old; len = len.old })
-        (record { read = read.new; refusal = refusal.new; text = out.new; len = len.new }) result }
-{
-    tell(judge_message::<M>(alloc, input), read, refusal, out, len)
 }
 
 /// Returns what is refused where bytes may follow the data.
@@ -207,7 +158,7 @@ fn refusal_in(refused: DataRefusal, len: usize) -> Refusal
 }
 
 fn judge_data(alloc: Global, input: &[u8]) -> Result<Verdict, OutOfMemory>
-    ensures { IfOk result (IsVerdict (AcceptsData input.now) (TellsData input.now)) }
+    ensures { IfOk result (IsVerdict (AcceptsData input.now) (TellsData input.now) ⊥) }
 {
     let found = explain_data(alloc, input)?;
     let Some(refused) = refused_in_front(found) else {
@@ -221,69 +172,53 @@ fn judge_data(alloc: Global, input: &[u8]) -> Result<Verdict, OutOfMemory>
     }))
 }
 
-#[tactic(auto, using(crate::proofs::Explaining::explains_of))]
-fn explain_auth(
-    alloc: Global,
-    input: &[u8],
-    read: &mut usize,
-    refusal: &mut Refusal,
-    out: &mut [u8],
-    len: &mut usize,
-) -> u32
-    ensures { ExplainsAuth input.now
-        (record { read = read.old; refusal = refusal.old; text = out.old; len = len.old })
-        (record { read = read.new; refusal = refusal.new; text = out.new; len = len.new }) result }
+fn judge_form(alloc: Global, form: Form, input: &[u8]) -> Result<Verdict, OutOfMemory>
+    ensures { IfOk result
+        (IsVerdict (AcceptsForm form input.now) (TellsForm form input.now) (IsUnexplainedForm form)) }
 {
-    tell(judge_data(alloc, input), read, refusal, out, len)
+    match form {
+        Form::Key => judge_key(alloc, input),
+        _ => Ok(Verdict::Unexplained),
+    }
 }
 
-fn explain_bytes(
+/// The input is accepted or refused.
+#[derive(Drop)]
+struct Judging<'a> {
     alloc: Global,
-    kind: BytesKind,
-    input: &[u8],
-    read: &mut usize,
-    refusal: &mut Refusal,
-    out: &mut [u8],
-    len: &mut usize,
-) -> u32
-    ensures { ExplainsBytes kind input.now
-        (record { read = read.old; refusal = refusal.old; text = out.old; len = len.old })
-        (record { read = read.new; refusal = refusal.new; text = out.new; len = len.new }) result }
-{
-    of_message!(
-        kind, explain_message(alloc, input, read, refusal, out, len),
-        BytesKind::Cbor => explain_item(alloc, input, read, refusal, out, len),
-        BytesKind::Auth => explain_auth(alloc, input, read, refusal, out, len),
-    )
+    input: &'a [u8],
 }
 
-fn explain_further(
-    alloc: Global,
-    kind: FurtherKind,
-    input: &[u8],
-    read: &mut usize,
-    refusal: &mut Refusal,
-    out: &mut [u8],
-    len: &mut usize,
-) -> u32
-    ensures { ExplainsFurther kind input.now
-        (record { read = read.old; refusal = refusal.old; text = out.old; len = len.old })
-        (record { read = read.new; refusal = refusal.new; text = out.new; len = len.new }) result }
+impl<'a> Visitor for Judging<'a> {
+    type Output = Result<Verdict, OutOfMemory>;
+
+    type Other = Form;
+
+    ghost Gives = { λ v d result. IfOk result
+        (IsVerdict (Accepts d v.input.now) (Tells d v.input.now) (IsUnexplained d)) };
+
+    fn visit_item(self) -> Result<Verdict, OutOfMemory> {
+        judge_item(self.alloc, self.input)
+    }
+
+    fn visit_data(self) -> Result<Verdict, OutOfMemory> {
+        judge_data(self.alloc, self.input)
+    }
+
+    fn visit_message<M: Message>(self) -> Result<Verdict, OutOfMemory> {
+        judge_message::<M>(self.alloc, self.input)
+    }
+
+    fn visit_other(self, what: Form) -> Result<Verdict, OutOfMemory> {
+        judge_form(self.alloc, what, self.input)
+    }
+}
+
+fn judge(alloc: Global, kind: Kind, input: &[u8]) -> Result<Verdict, OutOfMemory>
+    ensures { IfOk result (IsVerdict (Accepts (definition kind) input.now) (Tells (definition kind) input.now)
+        (IsUnexplained (definition kind))) }
 {
-    of_further!(
-        kind, explain_message(alloc, input, read, refusal, out, len),
-        FurtherKind::Key => explain_cose_key(alloc, input, read, refusal, out, len),
-        FurtherKind::PackedStatement
-        | FurtherKind::TpmStatement
-        | FurtherKind::AndroidKeyStatement
-        | FurtherKind::SafetyNetStatement
-        | FurtherKind::FidoU2fStatement
-        | FurtherKind::NoneStatement
-        | FurtherKind::AppleStatement
-        | FurtherKind::CompoundStatement
-        | FurtherKind::CertInfo
-        | FurtherKind::PubArea => 3,
-    )
+    visit(kind, Judging { alloc, input })
 }
 
 /// Explains why the input is refused as this kind. Returns PUFFGRIT_OK if it is accepted, with how
@@ -310,13 +245,12 @@ pub extern "C" fn puffgrit_explain(
     out: &mut [u8],
     len: &mut usize,
 ) -> u32
-    ensures { ExplainsAs (form_numbered kind) input.now
+    ensures { ExplainsAs (kind_numbered kind) input.now
         (record { read = read.old; refusal = refusal.old; text = out.old; len = len.old })
         (record { read = read.new; refusal = refusal.new; text = out.new; len = len.new }) result }
 {
-    match form_of(kind) {
-        Some(Form::Bytes(kind)) => explain_bytes(alloc, kind, input, read, refusal, out, len),
-        Some(Form::Further(kind)) => explain_further(alloc, kind, input, read, refusal, out, len),
-        _ => 3,
+    match Kind::from_number(kind as usize) {
+        Some(kind) => tell(judge(alloc, kind, input), read, refusal, out, len),
+        None => 3,
     }
 }

@@ -1,15 +1,13 @@
 //! What is in an input, as JSON, for C.
 ghost use Rattle.std.specs.Prelude.{◌≡◌, IfOk, IfErr};
-ghost use Rattle.passkey_c.specs.Forms.{form_numbered};
-ghost use Rattle.passkey_c.specs.Json.{IsDataJson, IsItemJson, IsKeyJson, IsMessageJson, ShowsBytes, ShowsData, ShowsFurther, ShowsItem, ShowsJson, ShowsKey, ShowsMessage};
+ghost use Rattle.passkey_c.specs.Json.{HasNoFormJson, HasNoJson, IsDataJson, IsFormJson, IsItemJson, IsJson, IsKeyJson, IsMessageJson, ShowsJson};
+ghost use Rattle.passkey_catalogue.specs.Catalogue.{definition, kind_numbered};
+ghost use Rattle.passkey_catalogue.specs.Rewriting.{IsKeyRefusal};
 ghost use Rattle.passkey_kinds.specs.Record.{read_item};
-ghost use Rattle.passkey_rewrite_further.specs.Rewriting.{IsKeyRefusal};
 ghost use Rattle.passkey_run.specs.Rewriting.{IsCborRefusal, IsDataRefusal, IsMessageRefusal};
 
-use crate::form::{Form, form_of};
-use crate::of_message::{of_further, of_message};
-use crate::rewrite::write_json_text;
 use crate::write::write;
+use passkey_catalogue::{Form, Kind, encode_form, visit};
 use passkey_cbor::{CborError, Value};
 use passkey_core::AuthenticatorData;
 use passkey_cose::CoseKey;
@@ -18,14 +16,13 @@ use passkey_explain::describe;
 use passkey_explain_data::data_len;
 use passkey_kinds::{Fault, Message};
 use passkey_report::json_of;
-use passkey_rewrite_further::FurtherKind;
-use passkey_run::{BytesKind, RunFault};
+use passkey_run::{RunFault, Visitor};
 use std::alloc::Global;
 
 /// Returns the JSON of the message at the beginning of the bytes, and the message's length.
 fn message_json<M: Message>(alloc: Global, input: &[u8]) -> Result<(Vec<u8>, usize), RunFault>
-    ensures ok { IfOk result (λ made. IsMessageJson M.Record.fields input.now made.0.items made.1) }
-    ensures err { IfErr result (IsMessageRefusal (read_item M.Record.fields) input.now) }
+    ensures ok { IfOk result (λ made. IsMessageJson M.fields input.now made.0.items made.1) }
+    ensures err { IfErr result (IsMessageRefusal (read_item M.fields) input.now) }
 {
     let (value, len) = match Value::from_slice(alloc, input) {
         Ok(front) => front,
@@ -38,21 +35,6 @@ fn message_json<M: Message>(alloc: Global, input: &[u8]) -> Result<(Vec<u8>, usi
     Ok((text.into_bytes(), len))
 }
 
-#[tactic(auto, using(crate::proofs::Writing::writes_of))]
-fn show_message<M: Message>(
-    alloc: Global,
-    input: &[u8],
-    read: &mut usize,
-    out: &mut [u8],
-    len: &mut usize,
-) -> u32
-    ensures { ShowsMessage M.Record.fields input.now
-        (record { read = read.old; out = out.old; len = len.old })
-        (record { read = read.new; out = out.new; len = len.new }) result }
-{
-    write(message_json::<M>(alloc, input), read, out, len)
-}
-
 /// Returns the JSON of the data item at the beginning of the bytes, and the item's length.
 fn item_json(alloc: Global, input: &[u8]) -> Result<(Vec<u8>, usize), RunFault>
     ensures ok { IfOk result (λ made. IsItemJson input.now made.0.items made.1) }
@@ -62,14 +44,6 @@ fn item_json(alloc: Global, input: &[u8]) -> Result<(Vec<u8>, usize), RunFault>
     let description = describe_item(alloc, &value)?;
     let text = json_of(alloc, &description)?;
     Ok((text.into_bytes(), len))
-}
-
-#[tactic(auto, using(crate::proofs::Writing::writes_of))]
-fn show_item(alloc: Global, input: &[u8], read: &mut usize, out: &mut [u8], len: &mut usize) -> u32
-    ensures { ShowsItem input.now (record { read = read.old; out = out.old; len = len.old })
-        (record { read = read.new; out = out.new; len = len.new }) result }
-{
-    write(item_json(alloc, input), read, out, len)
 }
 
 /// Returns the JSON of the authenticator data at the beginning of the bytes, and how many of them
@@ -84,14 +58,6 @@ fn data_json(alloc: Global, input: &[u8]) -> Result<(Vec<u8>, usize), RunFault>
     Ok((text.into_bytes(), data_len(input)))
 }
 
-#[tactic(auto, using(crate::proofs::Writing::writes_of))]
-fn show_data(alloc: Global, input: &[u8], read: &mut usize, out: &mut [u8], len: &mut usize) -> u32
-    ensures { ShowsData input.now (record { read = read.old; out = out.old; len = len.old })
-        (record { read = read.new; out = out.new; len = len.new }) result }
-{
-    write(data_json(alloc, input), read, out, len)
-}
-
 /// Returns the JSON of the COSE key at the beginning of the bytes, and its length.
 fn key_json(alloc: Global, input: &[u8]) -> Result<(Vec<u8>, usize), RunFault>
     ensures ok { IfOk result (λ made. IsKeyJson input.now made.0.items made.1) }
@@ -104,57 +70,57 @@ fn key_json(alloc: Global, input: &[u8]) -> Result<(Vec<u8>, usize), RunFault>
     Ok((text.into_bytes(), len))
 }
 
-#[tactic(auto, using(crate::proofs::Writing::writes_of))]
-fn show_key(alloc: Global, input: &[u8], read: &mut usize, out: &mut [u8], len: &mut usize) -> u32
-    ensures { ShowsKey input.now (record { read = read.old; out = out.old; len = len.old })
-        (record { read = read.new; out = out.new; len = len.new }) result }
+/// Returns the JSON of an input of this form. Returns `UnknownKind` for attestation statements and
+/// structures of a TPM.
+fn form_json(alloc: Global, form: Form, input: &[u8]) -> Result<(Vec<u8>, usize), RunFault>
+    ensures ok { IfOk result (λ made. IsFormJson form input.now made.0.items made.1) }
+    ensures err { IfErr result (HasNoFormJson form input.now) }
 {
-    write(key_json(alloc, input), read, out, len)
+    match form {
+        Form::Key => key_json(alloc, input),
+        Form::Json(_) => encode_form(alloc, form, input),
+        Form::FurtherJson(_) => encode_form(alloc, form, input),
+        Form::Statement(_) | Form::CertInfo | Form::PubArea => Err(RunFault::UnknownKind),
+    }
 }
 
-fn show_further(
+/// What is in the input is written as JSON.
+#[derive(Drop)]
+struct Showing<'a> {
     alloc: Global,
-    kind: FurtherKind,
-    input: &[u8],
-    read: &mut usize,
-    out: &mut [u8],
-    len: &mut usize,
-) -> u32
-    ensures { ShowsFurther kind input.now (record { read = read.old; out = out.old; len = len.old })
-        (record { read = read.new; out = out.new; len = len.new }) result }
-{
-    of_further!(
-        kind, show_message(alloc, input, read, out, len),
-        FurtherKind::Key => show_key(alloc, input, read, out, len),
-        FurtherKind::PackedStatement
-        | FurtherKind::TpmStatement
-        | FurtherKind::AndroidKeyStatement
-        | FurtherKind::SafetyNetStatement
-        | FurtherKind::FidoU2fStatement
-        | FurtherKind::NoneStatement
-        | FurtherKind::AppleStatement
-        | FurtherKind::CompoundStatement
-        | FurtherKind::CertInfo
-        | FurtherKind::PubArea => 3,
-    )
+    input: &'a [u8],
 }
 
-fn show_bytes(
-    alloc: Global,
-    kind: BytesKind,
-    input: &[u8],
-    read: &mut usize,
-    out: &mut [u8],
-    len: &mut usize,
-) -> u32
-    ensures { ShowsBytes kind input.now (record { read = read.old; out = out.old; len = len.old })
-        (record { read = read.new; out = out.new; len = len.new }) result }
+impl<'a> Visitor for Showing<'a> {
+    type Output = Result<(Vec<u8>, usize), RunFault>;
+
+    type Other = Form;
+
+    ghost Gives = { λ v d result. IfOk result (λ made. IsJson d v.input.now made.0.items made.1)
+        × IfErr result (HasNoJson d v.input.now) };
+
+    fn visit_item(self) -> Result<(Vec<u8>, usize), RunFault> {
+        item_json(self.alloc, self.input)
+    }
+
+    fn visit_data(self) -> Result<(Vec<u8>, usize), RunFault> {
+        data_json(self.alloc, self.input)
+    }
+
+    fn visit_message<M: Message>(self) -> Result<(Vec<u8>, usize), RunFault> {
+        message_json::<M>(self.alloc, self.input)
+    }
+
+    fn visit_other(self, what: Form) -> Result<(Vec<u8>, usize), RunFault> {
+        form_json(self.alloc, what, self.input)
+    }
+}
+
+fn json_as(alloc: Global, kind: Kind, input: &[u8]) -> Result<(Vec<u8>, usize), RunFault>
+    ensures ok { IfOk result (λ made. IsJson (definition kind) input.now made.0.items made.1) }
+    ensures err { IfErr result (HasNoJson (definition kind) input.now) }
 {
-    of_message!(
-        kind, show_message(alloc, input, read, out, len),
-        BytesKind::Cbor => show_item(alloc, input, read, out, len),
-        BytesKind::Auth => show_data(alloc, input, read, out, len),
-    )
+    visit(kind, Showing { alloc, input })
 }
 
 /// Decodes the input as this kind, and writes what is in it as compact JSON to the beginning of
@@ -177,14 +143,12 @@ pub extern "C" fn puffgrit_json(
     out: &mut [u8],
     len: &mut usize,
 ) -> u32
-    ensures { ShowsJson (form_numbered kind) input.now
+    ensures { ShowsJson (kind_numbered kind) input.now
         (record { read = read.old; out = out.old; len = len.old })
         (record { read = read.new; out = out.new; len = len.new }) result }
 {
-    match form_of(kind) {
-        Some(Form::Bytes(kind)) => show_bytes(alloc, kind, input, read, out, len),
-        Some(Form::Json(kind)) => write_json_text(alloc, kind, input, read, out, len),
-        Some(Form::Further(kind)) => show_further(alloc, kind, input, read, out, len),
+    match Kind::from_number(kind as usize) {
+        Some(kind) => write(json_as(alloc, kind, input), read, out, len),
         None => 3,
     }
 }

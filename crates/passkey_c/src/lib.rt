@@ -6,9 +6,7 @@
 ghost use Rattle.std.specs.Prelude.{◌≡◌};
 
 mod explain;
-mod form;
 mod json;
-mod of_message;
 mod rewrite;
 mod status;
 mod verdict;

@@ -67,7 +67,7 @@ pub(crate) fn status_of(fault: RunFault) -> u32
         RunFault::JsonRefused(fault) => json_status(fault),
         RunFault::BadJson => 26,
         RunFault::OutOfMemory => 2,
-        RunFault::BadHex | RunFault::UnknownKind | RunFault::InputFailed | RunFault::OutputFailed =>
-            27,
+        RunFault::UnknownKind => 3,
+        RunFault::BadHex | RunFault::InputFailed | RunFault::OutputFailed => 27,
     }
 }

@@ -33,6 +33,8 @@ pub(crate) enum Verdict {
     Accepted(usize),
     /// It is refused.
     Refused(Reason),
+    /// Inputs of its kind aren't explained.
+    Unexplained,
 }
 
 /// Returns which of so many bytes are refused: those from where they aren't well-formed.
@@ -53,8 +55,8 @@ fn put_front(out: &mut [u8], text: &[u8])
     out[..len].copy_from_slice(&text[..len]);
 }
 
-/// Writes how many bytes are accepted, or why the input is refused and where; nothing if memory
-/// ran out. Returns the call's status.
+/// Writes how many bytes are accepted, or why the input is refused and where; nothing if inputs of
+/// its kind aren't explained or memory ran out. Returns the call's status.
 pub(crate) fn tell(
     verdict: Result<Verdict, OutOfMemory>,
     read: &mut usize,
@@ -72,6 +74,7 @@ pub(crate) fn tell(
             return 0;
         }
         Ok(Verdict::Refused(reason)) => reason,
+        Ok(Verdict::Unexplained) => return 3,
         Err(_) => return 2,
     };
     *refusal = reason.refusal;

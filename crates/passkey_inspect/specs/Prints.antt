@@ -9,16 +9,21 @@ use Rattle.passkey_explain.specs.Described.{Described}
 use Rattle.passkey_report.specs.Json.{json_text}
 use Rattle.passkey_inspect_input.specs.Input.{bytes_as}
 use Rattle.passkey_inspect_input.specs.declared.Form.{Form}
-use Rattle.passkey_rewrite_further.specs.JsonKinds.{further_json_rewritten}
+use Rattle.passkey_catalogue.specs.JsonKinds.{further_json_rewritten}
 use Rattle.passkey_rewrite_json.specs.RewritesJson.{RewritesJson, json_rewritten}
-use Rattle.passkey_inspect.specs.Encodes.{Encodes}
 use Rattle.passkey_inspect.specs.declared.options.Output.{Output}
 use Rattle.passkey_inspect.specs.declared.options.Output.TheVariants.{Report, Json as JsonText, Diagnosis, Bytes as BytesText, Encoding}
-use Rattle.passkey_inspect.specs.declared.kind.InspectKind.{InspectKind}
-use Rattle.passkey_inspect.specs.declared.kind.InspectKind.TheVariants as kind
+use Rattle.passkey_catalogue.specs.Catalogue.{definition}
+use Rattle.passkey_catalogue.specs.Rewriting.{Encodes as EncodesAs}
+use Rattle.passkey_catalogue.specs.declared.kind.Kind.{Kind}
+use Rattle.passkey_catalogue.specs.declared.kind.Kind.TheVariants as kind
+
+-- Decoding the input as the kind and encoding the result returns this.
+abbrev pub Encodes : Kind → List ℕ → List ℕ → Type 0
+Encodes kind input encoding = (n : ℕ) × EncodesAs (definition kind) input encoding n
 
 -- The text is the encoding, in lower-case hexadecimal.
-pub record ShowsEncoding (kind : InspectKind) (bytes text : List ℕ) : Type 0 where
+pub record ShowsEncoding (kind : Kind) (bytes text : List ℕ) : Type 0 where
   pub encoding : List ℕ
   pub encodes : Encodes kind bytes encoding
   pub shown : text ≡ encode_lower encoding
@@ -41,7 +46,7 @@ pub record ShowsJson (text : List ℕ) : Type 0 where
 
 -- What is printed of the bytes as the kind: exactly the encoding, or the item, or its bytes, in diagnostic notation, in
 -- lines; or the JSON text of some description. Nothing is said of reports and of dumps.
-abbrev pub Prints : Output → InspectKind → List ℕ → List ℕ → Type 0
+abbrev pub Prints : Output → Kind → List ℕ → List ℕ → Type 0
 Prints Diagnosis kind bytes line = (text : List ℕ) × ShowsItem bytes text × (line ≡ text ++ 10 ∷ [])
 Prints BytesText kind bytes line = (text : List ℕ) × ShowsBytes bytes text × (line ≡ text ++ 10 ∷ [])
 Prints JsonText kind bytes line = (text : List ℕ) × ShowsJson text × (line ≡ text ++ 10 ∷ [])
@@ -50,7 +55,7 @@ Prints _ kind bytes line = ⊤
 
 -- What is printed of the bytes as some kind.
 abbrev pub PrintsAs : Output → List ℕ → List ℕ → Type 0
-PrintsAs output bytes line = (kind : InspectKind) × Prints output kind bytes line
+PrintsAs output bytes line = (kind : Kind) × Prints output kind bytes line
 
 -- The message is all of the bytes, or what follows a command or a status code.
 abbrev pub IsMessageIn : List ℕ → List ℕ → Type 0
@@ -63,7 +68,7 @@ pub record PrintsBytes (output : Output) (bytes line : List ℕ) : Type 0 where
   pub prints : PrintsAs output message line
 
 -- The JSON text of the record that the input is decoded to as the kind, if it is one of JSON.
-abbrev pub RewritesText : InspectKind → List ℕ → List ℕ → Type 0
+abbrev pub RewritesText : Kind → List ℕ → List ℕ → Type 0
 RewritesText (kind.Json k) = RewritesJson (json_rewritten k)
 RewritesText (kind.FurtherJson k) = RewritesJson (further_json_rewritten k)
 RewritesText _ = λ input text. ⊥
@@ -72,7 +77,7 @@ RewritesText _ = λ input text. ⊥
 abbrev pub PrintsRecord : Output → List ℕ → List ℕ → Type 0
 PrintsRecord Report input line = ⊤
 PrintsRecord _ input line =
-    (k : InspectKind) × (text : List ℕ) × RewritesText k input text × (line ≡ text ++ 10 ∷ [])
+    (k : Kind) × (text : List ℕ) × RewritesText k input text × (line ≡ text ++ 10 ∷ [])
 
 -- What is printed of an input that spells bytes in some form.
 pub record PrintsSpelled (output : Output) (input line : List ℕ) : Type 0 where

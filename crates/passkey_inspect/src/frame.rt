@@ -2,9 +2,9 @@
 ghost use Rattle.passkey_inspect.specs.Prints.{IsMessageIn};
 
 use crate::kind::InspectKind;
+use passkey_catalogue::FurtherKind;
 use passkey_framing::{Command, request_of};
 use passkey_memory::OutOfMemory;
-use passkey_rewrite_further::FurtherKind;
 use passkey_run::BytesKind;
 use std::alloc::Global;
 

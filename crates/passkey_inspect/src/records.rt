@@ -5,16 +5,16 @@ ghost use Rattle.passkey_inspect.specs.Prints.{PrintsRecord, RewritesText};
 use crate::examine::{Examined, examine};
 use crate::fault::InspectFault;
 use crate::inspect::with_line_feed;
-use crate::kind::{InspectKind, JSON_KINDS, name_of};
+use crate::kind::{FOUND_JSON_KINDS, InspectKind, name_of};
 use crate::options::{Options, Output};
 use passkey_bytes::{Bytes, BytesFault};
+use passkey_catalogue::rewrite_further_json;
 use passkey_credentials::{AuthenticatedPublicKeyCredential, CreatedPublicKeyCredential};
 use passkey_diagnose::escape_controls;
 use passkey_explain_json::{JsonExplanation, explain_client_data, explain_json};
 use passkey_memory::OutOfMemory;
 use passkey_options::{CredentialCreationOptions, CredentialRequestOptions};
 use passkey_report::report_of;
-use passkey_rewrite_further::rewrite_further_json;
 use passkey_rewrite_json::{parse_json, rewrite_json};
 use passkey_run::{BytesKind, JsonKind, RunFault};
 use serde_json::Value;
@@ -226,9 +226,9 @@ pub fn print_record(
     let value = parse_json(alloc, input)?;
     let mut names = Vec::new(alloc);
     let mut best = None;
-    for (name, kind) in JSON_KINDS {
+    for kind in FOUND_JSON_KINDS {
         if accepts(alloc, kind, input)? {
-            names.push(name)?;
+            names.push(name_of(kind))?;
             best = best.or(Some(kind));
         }
     }

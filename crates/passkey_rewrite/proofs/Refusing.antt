@@ -1,28 +1,20 @@
--- A call rejects bytes for the same fault as their kind.
-use Rattle.std.proofs.Common.{ℕ, List, Result, Ok, Err, IfErr}
-use Rattle.passkey_cbor.specs.Item.{Item}
-use Rattle.passkey_kinds.specs.declared.fault.Fault.{Fault}
-use Rattle.passkey_rewrite.specs.Rewriting.{IsRefusal, Refuses, RefusesAs}
-use Rattle.passkey_run.specs.Rewriting.{IsCborRefusal, IsDataRefusal, IsMessageRefusal, RefusesMessage}
+-- Why an input in hexadecimal has no output, by why its bytes have none.
+use Rattle.std.proofs.Common.{◌≡◌, ℕ, List, Ok}
+use Rattle.hex.specs.Hex.{decode_of}
+use Rattle.passkey_rewrite.specs.Rewriting.{HasNoHex, IsRefusal}
+use Rattle.passkey_run.specs.Trimmed.{trimmed}
 use Rattle.passkey_run.specs.declared.fault.RunFault.{RunFault}
-use Rattle.passkey_run.specs.declared.fault.RunFault.TheVariants.{Refused, MessageRefused, JsonRefused, BadHex, BadJson, UnknownKind, OutOfMemory, InputFailed, OutputFailed}
+use Rattle.passkey_run.specs.declared.fault.RunFault.TheVariants.{Refused, MessageRefused, OutOfMemory}
 use Rattle.passkey_run.specs.declared.kind.BytesKind.{BytesKind}
-use Rattle.passkey_run.specs.declared.kind.BytesKind.TheVariants.{Cbor, Auth}
+use Rattle.passkey_run.specs.declared.kind.BytesKind.TheVariants as kind
 
-module _ {A : Type 0} (bytes : List ℕ) where
-  pub item_refused : (r : Result A RunFault) → IfErr r (IsCborRefusal bytes) → IfErr r (IsRefusal Cbor bytes)
-  unfolding Refuses
-  item_refused (Err (MessageRefused fault)) h = absurd h
-  item_refused _ h = h
-
-  pub data_refused : (r : Result A RunFault) → IfErr r (IsDataRefusal bytes) → IfErr r (IsRefusal Auth bytes)
-  unfolding Refuses
-  data_refused (Err (MessageRefused fault)) h = absurd h
-  data_refused _ h = h
-
-  pub message_refused : {P : Type 0} (read : Item → Result P Fault) (kind : BytesKind) (r : Result A RunFault)
-      → ((fault : Fault) → RefusesMessage read bytes fault → RefusesAs kind bytes fault)
-      → IfErr r (IsMessageRefusal read bytes) → IfErr r (IsRefusal kind bytes)
-  message_refused read kind (Err (Refused refusal)) same h = absurd h
-  message_refused read kind (Err (MessageRefused fault)) same h = same fault h
-  message_refused read kind _ same h = h
+-- a kind refuses bytes with its own faults alone
+pub hex_refused : (k : BytesKind) (input bytes : List ℕ) (fault : RunFault) → decode_of (trimmed input) ≡ Ok bytes
+    → IsRefusal k bytes fault → HasNoHex k input fault
+unfolding IsRefusal
+hex_refused k input bytes (Refused refusal) decoded h = record { bytes = bytes; decoded = decoded; refused = h }
+hex_refused k input bytes (MessageRefused fault) decoded h = record { bytes = bytes; decoded = decoded; refused = h }
+hex_refused k input bytes OutOfMemory decoded h = tt
+hex_refused kind.Cbor input bytes _ decoded h = absurd h
+hex_refused kind.Auth input bytes _ decoded h = absurd h
+hex_refused _ input bytes _ decoded h = absurd h

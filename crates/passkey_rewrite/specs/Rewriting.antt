@@ -1,58 +1,24 @@
 -- The output of decoding an input as a kind and encoding the result, and why there is none.
 use Rattle.std.specs.Prelude.{◌≡◌, ℕ, List, Ok, IsErr, ⊤}
 use Rattle.hex.specs.Hex.{decode_of, encode_lower}
-use Rattle.passkey_cose.specs.declared.error.CoseError.{CoseError}
-use Rattle.passkey_get_info.specs.GetInfo.{read_get_info, get_info_tree}
-use Rattle.passkey_get_assertion.specs.GetRequest.{read_get_request, get_request_tree}
-use Rattle.passkey_get_assertion.specs.GetResponse.{read_get_response, get_response_tree}
-use Rattle.passkey_make_credential.specs.MakeRequest.{read_make_request, make_request_tree}
-use Rattle.passkey_make_credential.specs.MakeResponse.{read_make_response, make_response_tree}
-use Rattle.passkey_extensions.specs.HmacInput.{read_hmac_input, hmac_input_tree}
-use Rattle.passkey_kinds.specs.declared.fault.Fault.{Fault}
+use Rattle.passkey_rewrite.specs.Kinds.{bytes_definition}
 use Rattle.passkey_rewrite_json.specs.RewritesJson.{RewritesJson, IsJsonRefusal, json_rewritten}
 use Rattle.passkey_run.specs.Checking.{IsChecked, HasNoBytes}
-use Rattle.passkey_run.specs.Rewriting.{RewritesLeadingItem, RewritesData, RewritesMessage, RefusesLeadingItem, RefusesData, RefusesMessage}
+use Rattle.passkey_run.specs.Rewriting.{IsRefusalAs, RewritesAs}
 use Rattle.passkey_run.specs.Trimmed.{trimmed}
 use Rattle.passkey_run.specs.declared.kind.BytesKind.{BytesKind}
-use Rattle.passkey_run.specs.declared.kind.BytesKind.TheVariants.{Cbor, Auth, MakeRequest, MakeResponse, GetRequest, GetResponse, Info, HmacInput}
 use Rattle.passkey_run.specs.declared.kind.Kind.{Kind}
 use Rattle.passkey_run.specs.declared.kind.Kind.TheVariants.{Bytes, Json, Check}
 use Rattle.passkey_run.specs.declared.fault.RunFault.{RunFault}
-use Rattle.passkey_run.specs.declared.fault.RunFault.TheVariants.{Refused, MessageRefused, BadHex, OutOfMemory}
+use Rattle.passkey_run.specs.declared.fault.RunFault.TheVariants.{Refused, MessageRefused, BadHex, UnknownKind, OutOfMemory}
 
 -- what decoding these bytes as a kind and encoding the result returns
 unfoldable pub Rewrites : BytesKind → List ℕ → List ℕ → Type 0
-Rewrites Cbor bytes encoding = RewritesLeadingItem bytes encoding
-Rewrites Auth bytes encoding = RewritesData bytes encoding
-Rewrites MakeRequest bytes encoding = RewritesMessage read_make_request make_request_tree bytes encoding
-Rewrites MakeResponse bytes encoding = RewritesMessage read_make_response make_response_tree bytes encoding
-Rewrites GetRequest bytes encoding = RewritesMessage read_get_request get_request_tree bytes encoding
-Rewrites GetResponse bytes encoding = RewritesMessage read_get_response get_response_tree bytes encoding
-Rewrites Info bytes encoding = RewritesMessage read_get_info get_info_tree bytes encoding
-Rewrites HmacInput bytes encoding = RewritesMessage read_hmac_input hmac_input_tree bytes encoding
-
--- why a kind rejects the bytes
-unfoldable pub Refuses : BytesKind → List ℕ → CoseError → Type 0
-Refuses Cbor bytes refusal = RefusesLeadingItem bytes refusal
-Refuses Auth bytes refusal = RefusesData bytes refusal
-Refuses _ bytes refusal = ⊥
-
--- why a kind of message rejects the bytes
-unfoldable pub RefusesAs : BytesKind → List ℕ → Fault → Type 0
-RefusesAs MakeRequest bytes fault = RefusesMessage read_make_request bytes fault
-RefusesAs MakeResponse bytes fault = RefusesMessage read_make_response bytes fault
-RefusesAs GetRequest bytes fault = RefusesMessage read_get_request bytes fault
-RefusesAs GetResponse bytes fault = RefusesMessage read_get_response bytes fault
-RefusesAs Info bytes fault = RefusesMessage read_get_info bytes fault
-RefusesAs HmacInput bytes fault = RefusesMessage read_hmac_input bytes fault
-RefusesAs _ bytes fault = ⊥
+Rewrites kind = RewritesAs {O = Unit {0}} (λ o bytes encoding. ⊥) (bytes_definition kind)
 
 -- why these bytes aren't decoded and encoded as a kind; memory may run out for any bytes
-abbrev pub IsRefusal : BytesKind → List ℕ → RunFault → Type 0
-IsRefusal kind bytes (Refused refusal) = Refuses kind bytes refusal
-IsRefusal kind bytes (MessageRefused fault) = RefusesAs kind bytes fault
-IsRefusal kind bytes OutOfMemory = ⊤
-IsRefusal kind bytes _ = ⊥
+unfoldable pub IsRefusal : BytesKind → List ℕ → RunFault → Type 0
+IsRefusal kind = IsRefusalAs {O = Unit {0}} (λ o bytes fault. fault ≡ UnknownKind) (bytes_definition kind)
 
 -- The output for an input in hexadecimal: the kind's encoding, in lower-case hexadecimal.
 pub record RewritesHex (kind : BytesKind) (input text : List ℕ) : Type 0 where

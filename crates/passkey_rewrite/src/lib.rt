@@ -4,7 +4,9 @@
 
 mod rewrite_bytes;
 mod rewriting;
+mod visiting;
 
 pub use passkey_run::{BytesKind, JsonKind, Kind, RunFault};
 pub use rewrite_bytes::rewrite_raw;
 pub use rewriting::rewrite;
+pub use visiting::visit_bytes;

@@ -1,10 +1,48 @@
 //! Bytes in hexadecimal, decoded as a kind and encoded again.
-ghost use Rattle.std.specs.Prelude.{IfOk, IfErr, string_bytes};
+ghost use Rattle.std.specs.Prelude.{◌≡◌, IfOk, IfErr, string_bytes};
 ghost use Rattle.passkey_rewrite.specs.Rewriting.{HasNoHex, IsRefusal, Rewrites, RewritesHex};
+ghost use Rattle.passkey_run.specs.Rewriting.{IsRefusalAs, RewritesAs};
+ghost use Rattle.passkey_run.specs.declared.fault.RunFault.TheVariants.{UnknownKind};
 
-use passkey_extensions::HmacGetSecretInput;
-use passkey_run::{BytesKind, RunFault, decode_hex, rewrite_data, rewrite_item, rewrite_message};
+use crate::visiting::visit_bytes;
+use passkey_kinds::Message;
+use passkey_run::{
+    BytesKind, RunFault, Visitor, decode_hex, rewrite_data, rewrite_item, rewrite_message,
+};
 use std::alloc::Global;
+
+/// The bytes are decoded and encoded again.
+#[derive(Drop)]
+struct Rewriting<'a> {
+    alloc: Global,
+    bytes: &'a [u8],
+}
+
+impl<'a> Visitor for Rewriting<'a> {
+    type Output = Result<Vec<u8>, RunFault>;
+
+    type Other = ();
+
+    ghost Gives = { λ v d result. IfOk result (λ encoding. RewritesAs (λ o s t. ⊥) d v.bytes.now encoding.items)
+        × IfErr result (IsRefusalAs (λ o s fault. fault ≡ UnknownKind) d v.bytes.now) };
+
+    fn visit_item(self) -> Result<Vec<u8>, RunFault> {
+        rewrite_item(self.alloc, self.bytes)
+    }
+
+    fn visit_data(self) -> Result<Vec<u8>, RunFault> {
+        rewrite_data(self.alloc, self.bytes)
+    }
+
+    fn visit_message<M: Message>(self) -> Result<Vec<u8>, RunFault> {
+        rewrite_message::<M>(self.alloc, self.bytes)
+    }
+
+    // No kind here is anything else.
+    fn visit_other(self, _what: ()) -> Result<Vec<u8>, RunFault> {
+        Err(RunFault::UnknownKind)
+    }
+}
 
 /// Decodes the bytes as the kind and encodes the result. Bytes behind it are ignored. If the kind
 /// rejects the bytes, returns `MessageRefused` for a message and else `Refused`. Returns
@@ -13,24 +51,14 @@ pub fn rewrite_raw(alloc: Global, kind: BytesKind, bytes: &[u8]) -> Result<Vec<u
     ensures ok { IfOk result (λ encoding. Rewrites kind bytes.now encoding.items) }
     ensures err { IfErr result (IsRefusal kind bytes.now) }
 {
-    match kind {
-        BytesKind::Cbor => rewrite_item(alloc, bytes),
-        BytesKind::Auth => rewrite_data(alloc, bytes),
-        BytesKind::MakeRequest => rewrite_message::<passkey_make_credential::Request>(alloc, bytes),
-        BytesKind::MakeResponse => rewrite_message::<passkey_make_credential::Response>(
-            alloc, bytes,
-        ),
-        BytesKind::GetRequest => rewrite_message::<passkey_get_assertion::Request>(alloc, bytes),
-        BytesKind::GetResponse => rewrite_message::<passkey_get_assertion::Response>(alloc, bytes),
-        BytesKind::Info => rewrite_message::<passkey_get_info::Response>(alloc, bytes),
-        BytesKind::HmacInput => rewrite_message::<HmacGetSecretInput>(alloc, bytes),
-    }
+    visit_bytes(kind, Rewriting { alloc, bytes })
 }
 
 /// Decodes the bytes as the kind and encodes the result, in lower-case hexadecimal. The input is
 /// hexadecimal in either case, with tabs, line feeds, carriage returns and spaces allowed at its
 /// ends. Returns `BadHex` if the input isn't hexadecimal. If the kind rejects the bytes, returns
 /// `MessageRefused` for a message and else `Refused`. Returns `OutOfMemory` if an allocation fails.
+#[tactic(auto, using(crate::proofs::Refusing::hex_refused))]
 pub fn rewrite_hex(alloc: Global, kind: BytesKind, input: &[u8]) -> Result<String, RunFault>
     ensures ok { IfOk result (λ text. RewritesHex kind input.now (string_bytes text)) }
     ensures err { IfErr result (HasNoHex kind input.now) }

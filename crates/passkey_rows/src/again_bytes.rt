@@ -1,7 +1,6 @@
 //! Data items, authenticator data and messages: decoded, and encoded with copies of their parts.
-use crate::hexadecimal::{decode, encode};
 use crate::tries::Tries;
-use passkey_rewrite::{BytesKind, RunFault};
+use passkey_rewrite::RunFault;
 use passkey_types::OutOfMemory;
 use passkey_types::cbor::Value;
 use passkey_types::cose::{CoseError, CoseKey};
@@ -255,7 +254,8 @@ pub fn encoded_item(
     }
 }
 
-fn item_again(alloc: Global, tries: &mut Tries, bytes: &[u8]) -> Result<Vec<u8>, RunFault> {
+/// Decodes a data item, replaces it by a copy, and encodes it.
+pub fn item_again(alloc: Global, tries: &mut Tries, bytes: &[u8]) -> Result<Vec<u8>, RunFault> {
     let (mut item, _len) = Value::from_slice(alloc, bytes)?;
     tries.replace_equal(alloc, &mut item)?;
     Ok(encoded_item(alloc, tries, &item)?)
@@ -276,41 +276,10 @@ pub fn data_again(
     }
 }
 
-fn auth_again(alloc: Global, tries: &mut Tries, bytes: &[u8]) -> Result<Vec<u8>, RunFault> {
+/// Decodes authenticator data, replaces parts by copies, and encodes the result.
+pub fn auth_again(alloc: Global, tries: &mut Tries, bytes: &[u8]) -> Result<Vec<u8>, RunFault> {
     let mut data = AuthenticatorData::from_slice(alloc, bytes)?;
     replace_attested(alloc, tries, &mut data)?;
     tries.replace_some(alloc, &mut data.extensions)?;
     Ok(data_again(alloc, tries, &data)?)
-}
-
-fn bytes_again(
-    alloc: Global,
-    tries: &mut Tries,
-    kind: BytesKind,
-    bytes: &[u8],
-) -> Result<Vec<u8>, RunFault> {
-    match kind {
-        BytesKind::Cbor => item_again(alloc, tries, bytes),
-        BytesKind::Auth => auth_again(alloc, tries, bytes),
-        BytesKind::MakeRequest => { message_again::<make_credential::Request>(alloc, tries, bytes) }
-        BytesKind::MakeResponse => {
-            message_again::<make_credential::Response>(alloc, tries, bytes)
-        }
-        BytesKind::GetRequest => message_again::<get_assertion::Request>(alloc, tries, bytes),
-        BytesKind::GetResponse => message_again::<get_assertion::Response>(alloc, tries, bytes),
-        BytesKind::Info => message_again::<get_info::Response>(alloc, tries, bytes),
-        BytesKind::HmacInput => message_again::<HmacGetSecretInput>(alloc, tries, bytes),
-    }
-}
-
-/// Decodes the bytes as the kind, replaces parts by copies, and encodes the result.
-pub fn hex_again(
-    alloc: Global,
-    tries: &mut Tries,
-    kind: BytesKind,
-    input: &str,
-) -> Result<String, RunFault> {
-    let bytes = decode(alloc, input)?;
-    let encoded = bytes_again(alloc, tries, kind, &bytes)?;
-    encode(alloc, &encoded)
 }

@@ -5,7 +5,7 @@ use passkey_types::OutOfMemory;
 use passkey_types::json::Value;
 use passkey_types::webauthn::{
     AuthenticatedPublicKeyCredential, AuthenticationExtensionsClientInputs,
-    AuthenticationExtensionsClientOutputs, BytesForm, CollectedClientData,
+    AuthenticationExtensionsClientOutputs, BytesForm, ClientDataExtra, CollectedClientData,
     CreatedPublicKeyCredential, CredentialCreationOptions, CredentialRequestOptions, JsonFault,
     JsonRecord, PublicKeyCredentialCreationOptions, ToJson,
 };
@@ -136,22 +136,55 @@ fn record_again<R: JsonRecord + ToJson + CopiedRecord>(
     Ok(encoding_again(alloc, tries, &record, BytesForm::Base64Url)?)
 }
 
-fn client_data_text(alloc: Global, data: &CollectedClientData) -> Result<String, JsonFault> {
+fn client_data_text<E: ClientDataExtra>(
+    alloc: Global,
+    data: &CollectedClientData<E>,
+) -> Result<String, JsonFault> {
     let text = data.to_text(alloc)?;
     Ok(String::from_str(alloc, text.as_str())?)
+}
+
+fn copied_text<E: ClientDataExtra>(
+    alloc: Global,
+    data: &CollectedClientData<E>,
+) -> Result<String, RunFault> {
+    let copy = data.try_clone(alloc)?;
+    Ok(client_data_text(alloc, &copy)?)
+}
+
+/// `TEXT`: client data with the members that the caller's type knows, decoded, copied and encoded.
+pub fn client_data_copied<E: ClientDataExtra>(
+    alloc: Global,
+    text: &str,
+) -> Result<String, RunFault> {
+    let value = parsed(alloc, text)?;
+    let data: CollectedClientData<E> = CollectedClientData::from_json(alloc, &value)?;
+    copied_text(alloc, &data)
+}
+
+/// Returns the text, and tries again if memory ran out.
+fn client_data_text_again(
+    alloc: Global,
+    tries: &mut Tries,
+    data: &CollectedClientData,
+) -> Result<String, JsonFault> {
+    match client_data_text(alloc, data) {
+        Err(JsonFault::OutOfMemory) => {
+            tries.refuse();
+            client_data_text(alloc, data)
+        }
+        other => other,
+    }
 }
 
 fn client_data_again(alloc: Global, tries: &mut Tries, text: &str) -> Result<String, RunFault> {
     let value = parsed(alloc, text)?;
     let mut data: CollectedClientData = CollectedClientData::from_json(alloc, &value)?;
+    drop(value);
     tries.replace(alloc, &mut data)?;
-    match client_data_text(alloc, &data) {
-        Err(JsonFault::OutOfMemory) => {
-            tries.refuse();
-            Ok(client_data_text(alloc, &data)?)
-        }
-        other => Ok(other?),
-    }
+    let text = client_data_text_again(alloc, tries, &data);
+    drop(data);
+    Ok(text?)
 }
 
 /// Decodes the text as the kind, replaces parts by copies, and encodes the result with bytes as

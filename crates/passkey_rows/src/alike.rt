@@ -1,9 +1,9 @@
 //! Messages decoded from bytes, and from the leading data item of the same bytes.
 use anyhow::Result;
-use passkey_rewrite::BytesKind;
+use passkey_catalogue::{Form, Kind, visit};
+use passkey_run::Visitor;
 use passkey_types::cbor::{CborError, Value, item_len};
-use passkey_types::ctap2::extensions::HmacGetSecretInput;
-use passkey_types::ctap2::{Fault, Message, get_assertion, get_info, make_credential};
+use passkey_types::ctap2::{Fault, Message};
 use std::alloc::Global;
 
 // Initial bytes that change much: an unsigned integer, one that isn't well-formed, those of a text
@@ -56,8 +56,7 @@ fn are_changed_alike<M: Message>(alloc: Global, item: &[u8], at: usize) -> Resul
     Ok(true)
 }
 
-/// Does the same for one type of messages.
-pub fn is_decoded_alike<M: Message>(alloc: Global, bytes: &[u8]) -> Result<bool> {
+fn is_decoded_alike<M: Message>(alloc: Global, bytes: &[u8]) -> Result<bool> {
     if !are_alike::<M>(alloc, bytes)? {
         return Ok(false);
     }
@@ -75,21 +74,50 @@ pub fn is_decoded_alike<M: Message>(alloc: Global, bytes: &[u8]) -> Result<bool>
     Ok(true)
 }
 
+/// A message is decoded over a cursor and from a data item. Anything else is decoded one way.
+#[derive(Drop)]
+struct Comparing<'a> {
+    alloc: Global,
+    bytes: &'a [u8],
+}
+
+impl<'a> Visitor for Comparing<'a> {
+    type Output = Result<bool>;
+
+    type Other = Form;
+
+    ghost Gives = { λ v d result. Unit {0} };
+
+    fn visit_item(self) -> Result<bool> {
+        Ok(true)
+    }
+
+    fn visit_data(self) -> Result<bool> {
+        Ok(true)
+    }
+
+    fn visit_message<M: Message>(self) -> Result<bool> {
+        is_decoded_alike::<M>(self.alloc, self.bytes)
+    }
+
+    fn visit_other(self, _what: Form) -> Result<bool> {
+        Ok(true)
+    }
+}
+
 /// Returns whether a message's bytes decode to the same message of the same length, or with the
 /// same fault, over a cursor and from a data item in memory. The item is also cut off at each byte,
 /// which must be `DecodeFailed`, and each of its bytes is replaced by some others. Returns true if
 /// the bytes aren't a message.
-pub fn are_decoded_alike(alloc: Global, kind: BytesKind, input: &str) -> Result<bool> {
+pub fn are_decoded_alike(alloc: Global, kind: Kind, input: &str) -> Result<bool> {
     let Ok(bytes) = hex::decode(alloc, input.trim().as_bytes()) else {
         return Ok(true);
     };
-    match kind {
-        BytesKind::Cbor | BytesKind::Auth => Ok(true),
-        BytesKind::MakeRequest => is_decoded_alike::<make_credential::Request>(alloc, &bytes),
-        BytesKind::MakeResponse => is_decoded_alike::<make_credential::Response>(alloc, &bytes),
-        BytesKind::GetRequest => is_decoded_alike::<get_assertion::Request>(alloc, &bytes),
-        BytesKind::GetResponse => is_decoded_alike::<get_assertion::Response>(alloc, &bytes),
-        BytesKind::Info => is_decoded_alike::<get_info::Response>(alloc, &bytes),
-        BytesKind::HmacInput => is_decoded_alike::<HmacGetSecretInput>(alloc, &bytes),
-    }
+    visit(
+        kind,
+        Comparing {
+            alloc,
+            bytes: &bytes,
+        },
+    )
 }

@@ -1,14 +1,10 @@
 //! Messages that are decoded from a data item in memory, and encoded by way of one.
 use crate::again_bytes::{encoded, encoded_item};
-use crate::hexadecimal::{decode, encode};
 use crate::tries::Tries;
-use passkey_rewrite::{BytesKind, RunFault};
+use passkey_rewrite::RunFault;
 use passkey_types::OutOfMemory;
 use passkey_types::cbor::Value;
-use passkey_types::ctap2::extensions::HmacGetSecretInput;
-use passkey_types::ctap2::{
-    Fault, FromCbor, Message, Refusal, ToCbor, get_assertion, get_info, make_credential,
-};
+use passkey_types::ctap2::{Fault, FromCbor, Message, Refusal, ToCbor, get_info};
 use std::alloc::Global;
 
 /// Decodes the message from the leading data item, and tries again if memory ran out.
@@ -74,37 +70,8 @@ fn replace_parts(
 }
 
 /// The response has no data item of its own, but its parts have.
-fn info_by_items(alloc: Global, tries: &mut Tries, bytes: &[u8]) -> Result<Vec<u8>, RunFault> {
+pub fn info_by_items(alloc: Global, tries: &mut Tries, bytes: &[u8]) -> Result<Vec<u8>, RunFault> {
     let mut info = from_item::<get_info::Response>(alloc, tries, bytes)?;
     replace_parts(alloc, tries, &mut info)?;
     Ok(encoded(alloc, tries, &info)?)
-}
-
-fn bytes_by_item(
-    alloc: Global,
-    tries: &mut Tries,
-    kind: BytesKind,
-    bytes: &[u8],
-) -> Result<Vec<u8>, RunFault> {
-    match kind {
-        BytesKind::Cbor | BytesKind::Auth => Err(RunFault::UnknownKind),
-        BytesKind::MakeRequest => by_item::<make_credential::Request>(alloc, tries, bytes),
-        BytesKind::MakeResponse => by_item::<make_credential::Response>(alloc, tries, bytes),
-        BytesKind::GetRequest => by_item::<get_assertion::Request>(alloc, tries, bytes),
-        BytesKind::GetResponse => by_item::<get_assertion::Response>(alloc, tries, bytes),
-        BytesKind::Info => info_by_items(alloc, tries, bytes),
-        BytesKind::HmacInput => by_item::<HmacGetSecretInput>(alloc, tries, bytes),
-    }
-}
-
-/// Decodes the message from its data item, and encodes the message's data item.
-pub fn hex_by_item(
-    alloc: Global,
-    tries: &mut Tries,
-    kind: BytesKind,
-    input: &str,
-) -> Result<String, RunFault> {
-    let bytes = decode(alloc, input)?;
-    let encoded = bytes_by_item(alloc, tries, kind, &bytes)?;
-    encode(alloc, &encoded)
 }

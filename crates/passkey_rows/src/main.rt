@@ -13,6 +13,7 @@ mod alike;
 mod attestation;
 mod building;
 mod by_item;
+mod copied;
 mod extensions;
 mod further;
 mod heads;
@@ -21,14 +22,16 @@ mod lenient;
 mod lenient_json;
 mod level_3;
 mod making;
+mod notation;
 mod parts;
 mod setting;
 mod tries;
+mod ways;
 mod well_known;
 
 use crate::again::answer;
 use crate::alike::are_decoded_alike;
-use crate::further::{Further, are_alike, further_row};
+use crate::further::further_row;
 use crate::tries::Tries;
 use anyhow::Result;
 use passkey_rewrite::{Kind, RunFault, rewrite};
@@ -48,13 +51,9 @@ fn output_of(alloc: Global, tries: &mut Tries, row: &str) -> Result<String, RunF
 
 fn is_decoded_alike(alloc: Global, row: &str) -> Result<bool> {
     let (name, input) = row.split_once(' ').unwrap_or((row, ""));
-    match Kind::from_name(name) {
-        Some(Kind::Bytes(kind)) => are_decoded_alike(alloc, kind, input),
-        Some(_) => Ok(true),
-        None => match Further::from_name(name) {
-            Some(kind) => are_alike(alloc, kind, input),
-            None => Ok(true),
-        },
+    match passkey_catalogue::Kind::from_name(name) {
+        Some(kind) => are_decoded_alike(alloc, kind, input),
+        None => Ok(true),
     }
 }
 

@@ -4,7 +4,7 @@ use crate::hexadecimal::{decode, encode};
 use crate::tries::Tries;
 use passkey_rewrite::RunFault;
 use passkey_types::cbor::Value;
-use passkey_types::cose::{CoseError, CoseKey, Label};
+use passkey_types::cose::{CoseError, CoseKey, Label, RefusedKey};
 use passkey_types::encoding::{base64, base64url};
 use passkey_types::{Bytes, BytesFault, Map, OutOfMemory, Text};
 use std::alloc::Global;
@@ -28,28 +28,33 @@ fn with_text_param(
     label: &str,
     value: &str,
 ) -> Result<CoseKey, RunFault> {
-    let name = Label::Text(String::from_str(alloc, label)?);
-    match key.with_param(alloc, name, item_of(alloc, value)?) {
+    let refused = match with_param(alloc, key, label, item_of(alloc, value)?) {
+        Ok(key) => return Ok(key),
+        Err(refused) => refused,
+    };
+    if refused.error != CoseError::OutOfMemory {
+        return Err(RunFault::from(refused.error));
+    }
+    tries.refuse();
+    match with_param(alloc, refused.key, label, item_of(alloc, value)?) {
         Ok(key) => Ok(key),
-        Err(refused) if refused.error == CoseError::OutOfMemory => {
-            tries.refuse();
-            let name = Label::Text(String::from_str(alloc, label)?);
-            let item = item_of(alloc, value)?;
-            with_param(alloc, refused.key, name, item)
-        }
         Err(refused) => Err(RunFault::from(refused.error)),
     }
 }
 
+/// The error is that of the parameter, and gives the key back; or why there is no parameter.
 fn with_param(
     alloc: Global,
     key: CoseKey,
-    label: Label,
+    label: &str,
     value: Value,
-) -> Result<CoseKey, RunFault> {
-    match key.with_param(alloc, label, value) {
-        Ok(key) => Ok(key),
-        Err(refused) => Err(RunFault::from(refused.error)),
+) -> Result<CoseKey, RefusedKey> {
+    match String::from_str(alloc, label) {
+        Ok(name) => key.with_param(alloc, Label::Text(name), value),
+        Err(_) => Err(RefusedKey {
+            key,
+            error: CoseError::OutOfMemory,
+        }),
     }
 }
 

@@ -1,3 +1,4 @@
+pub mod Definition
 pub mod Kind
 pub mod Trimmed
 pub mod Fault

@@ -10,8 +10,10 @@ use Rattle.passkey_core.specs.DataParts.{DataParts}
 use Rattle.passkey_core.specs.DataReading.{ReadsData}
 use Rattle.passkey_core.specs.DataWritten.{data_written}
 use Rattle.passkey_kinds.specs.Message.{Begins}
+use Rattle.passkey_kinds.specs.Record.{read_item}
 use Rattle.passkey_kinds.specs.declared.fault.Fault.{Fault}
 use Rattle.passkey_kinds.specs.declared.fault.Fault.TheVariants as message
+use Rattle.passkey_run.specs.Definition.{Definition, authenticator, item, message as as_message, other}
 use Rattle.passkey_run.specs.declared.fault.RunFault.{RunFault}
 use Rattle.passkey_run.specs.declared.fault.RunFault.TheVariants.{Refused, MessageRefused, OutOfMemory}
 
@@ -72,3 +74,19 @@ abbrev pub IsMessageRefusal : {P : Type 0} → (Item → Result P Fault) → Lis
 IsMessageRefusal read bytes (MessageRefused fault) = RefusesMessage read bytes fault
 IsMessageRefusal read bytes OutOfMemory = ⊤
 IsMessageRefusal read bytes _ = ⊥
+
+-- ---- by what the bytes are
+
+-- what decoding the bytes and encoding the result returns; the first argument says it of another form
+abbrev pub RewritesAs : {O : Type 0} → (O → List ℕ → List ℕ → Type 0) → Definition O → List ℕ → List ℕ → Type 0
+RewritesAs others item = RewritesLeadingItem
+RewritesAs others authenticator = RewritesData
+RewritesAs others (as_message t tree) = RewritesMessage (read_item t) tree
+RewritesAs others (other o) = others o
+
+-- why the bytes aren't decoded and encoded
+abbrev pub IsRefusalAs : {O : Type 0} → (O → List ℕ → RunFault → Type 0) → Definition O → List ℕ → RunFault → Type 0
+IsRefusalAs others item = IsCborRefusal
+IsRefusalAs others authenticator = IsDataRefusal
+IsRefusalAs others (as_message t tree) = IsMessageRefusal (read_item t)
+IsRefusalAs others (other o) = others o

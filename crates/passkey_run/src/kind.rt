@@ -1,6 +1,8 @@
 //! The kinds of input.
 ghost use Rattle.std.specs.Prelude.{◌≡◌};
-ghost use Rattle.passkey_run.specs.Kind.{kind_named};
+ghost use Rattle.passkey_run.specs.Kind.{bytes_kinds, bytes_kinds_own, json_kinds, json_kinds_own, kind_named};
+
+use passkey_webauthn::EnumNames;
 
 /// The type that bytes, given in hexadecimal, are decoded as.
 #[derive(Clone, Copy, Debug, PartialEq, Eq)]
@@ -23,6 +25,25 @@ pub enum BytesKind {
     HmacInput,
 }
 
+impl EnumNames for BytesKind {
+    ghost table = { bytes_kinds };
+
+    ghost name_is_own = { bytes_kinds_own };
+
+    fn table() -> &'static [(&'static str, BytesKind)] {
+        &[
+            ("cbor", BytesKind::Cbor),
+            ("auth", BytesKind::Auth),
+            ("mc-request", BytesKind::MakeRequest),
+            ("mc-response", BytesKind::MakeResponse),
+            ("ga-request", BytesKind::GetRequest),
+            ("ga-response", BytesKind::GetResponse),
+            ("info", BytesKind::Info),
+            ("hmac-input", BytesKind::HmacInput),
+        ]
+    }
+}
+
 /// The type that a JSON text is decoded as.
 #[derive(Clone, Copy, Debug, PartialEq, Eq)]
 pub enum JsonKind {
@@ -38,6 +59,22 @@ pub enum JsonKind {
     ClientData,
 }
 
+impl EnumNames for JsonKind {
+    ghost table = { json_kinds };
+
+    ghost name_is_own = { json_kinds_own };
+
+    fn table() -> &'static [(&'static str, JsonKind)] {
+        &[
+            ("creation", JsonKind::Creation),
+            ("request", JsonKind::Request),
+            ("created", JsonKind::Created),
+            ("authenticated", JsonKind::Authenticated),
+            ("client-data", JsonKind::ClientData),
+        ]
+    }
+}
+
 /// What the input is, and what is done with it.
 #[derive(Clone, Copy, Debug, PartialEq, Eq)]
 pub enum Kind {
@@ -51,25 +88,20 @@ pub enum Kind {
 
 impl Kind {
     /// Returns the kind with this name, or `None` if no kind has it.
+    #[tactic(auto, unfolding(crate::specs::Kind::kind_named))]
     pub fn from_name(name: &str) -> Option<Kind>
         ensures { result ≡ kind_named name.now }
     {
-        match name {
-            "cbor" => Some(Kind::Bytes(BytesKind::Cbor)),
-            "auth" => Some(Kind::Bytes(BytesKind::Auth)),
-            "mc-request" => Some(Kind::Bytes(BytesKind::MakeRequest)),
-            "mc-response" => Some(Kind::Bytes(BytesKind::MakeResponse)),
-            "ga-request" => Some(Kind::Bytes(BytesKind::GetRequest)),
-            "ga-response" => Some(Kind::Bytes(BytesKind::GetResponse)),
-            "info" => Some(Kind::Bytes(BytesKind::Info)),
-            "hmac-input" => Some(Kind::Bytes(BytesKind::HmacInput)),
-            "creation" => Some(Kind::Json(JsonKind::Creation)),
-            "request" => Some(Kind::Json(JsonKind::Request)),
-            "created" => Some(Kind::Json(JsonKind::Created)),
-            "authenticated" => Some(Kind::Json(JsonKind::Authenticated)),
-            "client-data" => Some(Kind::Json(JsonKind::ClientData)),
-            "check" => Some(Kind::Check),
-            _ => None,
+        if let Some(kind) = BytesKind::from_name(name) {
+            return Some(Kind::Bytes(kind));
+        }
+        if let Some(kind) = JsonKind::from_name(name) {
+            return Some(Kind::Json(kind));
+        }
+        if name == "check" {
+            Some(Kind::Check)
+        } else {
+            None
         }
     }
 }

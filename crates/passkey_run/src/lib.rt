@@ -10,6 +10,7 @@ mod kind;
 mod rewriting;
 mod streams;
 mod trim;
+mod visitor;
 mod words;
 
 pub use check::check_hex;
@@ -20,4 +21,5 @@ pub use rewriting::{
     rewrite_data, rewrite_front_item, rewrite_front_message, rewrite_item, rewrite_message,
 };
 pub use streams::{read_all, read_within, write_all};
+pub use visitor::Visitor;
 pub use words::{kind_of, read_words};

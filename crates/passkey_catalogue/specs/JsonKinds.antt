@@ -1,0 +1,65 @@
+-- The kinds of JSON texts, by their names, and what each makes of a JSON value.
+use Rattle.std.specs.Prelude.{◌≡◌, ℕ, Bool, List, [], ◌∷◌, Some, Result, Ok, Err, codes, refl}
+use Rattle.std.specs.Option.{ok_or}
+use Rattle.passkey_bytes.specs.Map.{ByteMap}
+use Rattle.passkey_further_client.specs.ClientExtensions.{client_extension_inputs, client_extension_outputs}
+use Rattle.passkey_further_client.specs.Mediated.{mediated_options}
+use Rattle.passkey_further_client.specs.PaymentData.{additional_payment_data, is_payment, payment_members}
+use Rattle.passkey_further_client.specs.TopOrigin.{is_top_origin, origin_members}
+use Rattle.passkey_json.specs.Coded.{map_value, truth_value}
+use Rattle.passkey_json.specs.Fault.{Fault, no_object, refused}
+use Rattle.passkey_json.specs.Kind.{text}
+use Rattle.passkey_json.specs.Members.{◌>>=◌, if_present, member}
+use Rattle.passkey_json.specs.Table.{nested}
+use Rattle.passkey_json.specs.declared.bytes_form.BytesForm.TheVariants.{Base64Url}
+use Rattle.passkey_options.specs.Options.{creation_options, request_options}
+use Rattle.passkey_catalogue.specs.contracts.json_kind.FurtherJsonKind.{the_type}
+use Rattle.passkey_catalogue.specs.declared.json_kind.FurtherJsonKind.{FurtherJsonKind}
+use Rattle.passkey_catalogue.specs.declared.json_kind.FurtherJsonKind.TheVariants as kind
+use Rattle.passkey_rewrite_json.specs.RewritesJson.{client_data_rewritten, table_rewritten}
+use Rattle.passkey_signals.specs.Signals.{all_accepted_credentials, current_user_details, unknown_credential}
+use Rattle.passkey_webauthn.specs.Names.{Names, own_name, value_in}
+use Rattle.serde_json.specs.Data.{Data, object}
+use Rattle.serde_json.specs.Written.{compact_text}
+
+abbrev pub further_json_kinds : Names FurtherJsonKind
+further_json_kinds = (codes "signal-unknown", kind.UnknownCredential)
+    ∷ (codes "signal-accepted", kind.AcceptedCredentials)
+    ∷ (codes "signal-details", kind.UserDetails)
+    ∷ (codes "client-inputs", kind.ClientInputs)
+    ∷ (codes "client-outputs", kind.ClientOutputs)
+    ∷ (codes "mediated-creation", kind.MediatedCreation)
+    ∷ (codes "mediated-request", kind.MediatedRequest)
+    ∷ (codes "client-data-top", kind.TopOrigin)
+    ∷ (codes "client-data-payment", kind.Payment)
+    ∷ (codes "capabilities", kind.Capabilities)
+    ∷ []
+
+pub further_json_own : (x : FurtherJsonKind)
+    → value_in further_json_kinds (own_name the_type further_json_kinds x) ≡ Some x
+further_json_own kind.UnknownCredential = refl
+further_json_own _ = refl
+
+-- client capabilities: an object of booleans (WebAuthn Level 3, section 5.1.7)
+abbrev pub capabilities_in : Data → Result (ByteMap Bool) Fault
+capabilities_in (object ms) = ok_or ((map_value truth_value).kind (object ms)) (refused (codes "capabilities"))
+capabilities_in _ = Err no_object
+
+abbrev pub capabilities_rewritten : Data → Result (List ℕ) Fault
+capabilities_rewritten d = capabilities_in d >>= λ m. Ok (compact_text ((map_value truth_value).json Base64Url m))
+
+-- the output of each kind for a JSON value
+abbrev pub further_json_rewritten : FurtherJsonKind → Data → Result (List ℕ) Fault
+further_json_rewritten kind.UnknownCredential = table_rewritten unknown_credential
+further_json_rewritten kind.AcceptedCredentials = table_rewritten all_accepted_credentials
+further_json_rewritten kind.UserDetails = table_rewritten current_user_details
+further_json_rewritten kind.ClientInputs = table_rewritten client_extension_inputs
+further_json_rewritten kind.ClientOutputs = table_rewritten client_extension_outputs
+further_json_rewritten kind.MediatedCreation = table_rewritten (mediated_options creation_options)
+further_json_rewritten kind.MediatedRequest = table_rewritten (mediated_options request_options)
+further_json_rewritten kind.TopOrigin =
+    client_data_rewritten is_top_origin (λ o. if_present text (member (codes "topOrigin") o)) origin_members
+further_json_rewritten kind.Payment =
+    client_data_rewritten is_payment
+    (λ o. if_present (nested additional_payment_data).kind (member (codes "payment") o)) payment_members
+further_json_rewritten kind.Capabilities = capabilities_rewritten

@@ -1,0 +1,5 @@
+pub mod Catalogue
+pub mod JsonKinds
+pub mod Kinds
+pub mod Numbers
+pub mod Rewriting

@@ -1,0 +1,87 @@
+//! All kinds of input.
+ghost use Rattle.std.specs.Prelude.{◌≡◌};
+ghost use Rattle.passkey_catalogue.specs.Catalogue.{kind_named, kind_numbered, name_of};
+ghost use Rattle.passkey_catalogue.specs.Numbers.{value_from};
+
+use crate::further_kind::FurtherKind;
+use crate::json_kind::FurtherJsonKind;
+use passkey_run::{BytesKind, JsonKind};
+use passkey_webauthn::EnumNames;
+
+/// What an input is.
+#[derive(Clone, Copy, Debug, PartialEq, Eq)]
+pub enum Kind {
+    /// Bytes of a kind that `passkey_show` has.
+    Bytes(BytesKind),
+    /// A JSON text of a kind that `passkey_show` has.
+    Json(JsonKind),
+    /// Bytes of another kind.
+    Further(FurtherKind),
+    /// A JSON text of another kind.
+    FurtherJson(FurtherJsonKind),
+}
+
+/// Returns the value whose place in its table, from `first` on, is the number; `None` if none has
+/// it.
+pub(crate) fn placed<T: EnumNames>(number: usize, first: usize) -> Option<T>
+    ensures { result ≡ value_from T.table first number }
+{
+    if number < first {
+        return None;
+    }
+    match T::table().get(number - first) {
+        Some((_, value)) => Some(*value),
+        None => None,
+    }
+}
+
+impl Kind {
+    /// Returns the kind with this name; `None` if no kind has it.
+    pub fn from_name(name: &str) -> Option<Kind>
+        ensures { result ≡ kind_named name.now }
+    {
+        if let Some(kind) = BytesKind::from_name(name) {
+            return Some(Kind::Bytes(kind));
+        }
+        if let Some(kind) = JsonKind::from_name(name) {
+            return Some(Kind::Json(kind));
+        }
+        if let Some(kind) = FurtherKind::from_name(name) {
+            return Some(Kind::Further(kind));
+        }
+        match FurtherJsonKind::from_name(name) {
+            Some(kind) => Some(Kind::FurtherJson(kind)),
+            None => None,
+        }
+    }
+
+    /// The kind's name.
+    pub fn name(self) -> &'static str
+        ensures { result.now ≡ name_of self }
+    {
+        match self {
+            Kind::Bytes(kind) => kind.name(),
+            Kind::Json(kind) => kind.name(),
+            Kind::Further(kind) => kind.name(),
+            Kind::FurtherJson(kind) => kind.name(),
+        }
+    }
+
+    /// Returns the kind with this number in C; `None` if no kind has it. The numbers of the kinds of
+    /// bytes that `passkey_show` has begin at 1, those of its JSON texts at 9, and those of other
+    /// bytes at 14. Other JSON texts have none.
+    pub fn from_number(number: usize) -> Option<Kind>
+        ensures { result ≡ kind_numbered number }
+    {
+        if let Some(kind) = placed::<BytesKind>(number, 1) {
+            return Some(Kind::Bytes(kind));
+        }
+        if let Some(kind) = placed::<JsonKind>(number, 9) {
+            return Some(Kind::Json(kind));
+        }
+        match placed::<FurtherKind>(number, 14) {
+            Some(kind) => Some(Kind::Further(kind)),
+            None => None,
+        }
+    }
+}

@@ -1,0 +1,52 @@
+//! Attestation statements, decoded and encoded again.
+ghost use Rattle.std.specs.Prelude.{◌≡◌, IfOk, IfErr};
+ghost use Rattle.passkey_attestation.specs.Formats.{format_name};
+ghost use Rattle.passkey_attestation.specs.Statement.{read_statement, statement_parts};
+ghost use Rattle.passkey_cbor.specs.View.{item_of};
+ghost use Rattle.passkey_catalogue.specs.Rewriting.{IsFaultOf, IsStatementRefusal, RewritesStatement};
+ghost use Rattle.passkey_run.specs.Rewriting.{IsFrontLength};
+
+use passkey_attestation::{AttestationFormat, AttestationStatement, StatementFault};
+use passkey_cbor::Value;
+use passkey_cose::CoseError;
+use passkey_run::RunFault;
+use passkey_webauthn::EnumNames;
+use std::alloc::Global;
+
+/// Decodes a statement of this format. The fault of a statement that isn't one of its map is
+/// `UnexpectedItem`.
+fn statement_from(
+    alloc: Global,
+    format: AttestationFormat,
+    value: &Value,
+) -> Result<AttestationStatement, RunFault>
+    ensures ok { IfOk result
+        (λ s. read_statement (format_name format) (item_of value.now) ≡ Ok (statement_parts s)) }
+    ensures err { IfErr result (IsFaultOf (read_statement (format_name format) (item_of value.now))) }
+{
+    match AttestationStatement::from_value(alloc, format.name(), value) {
+        Ok(statement) => Ok(statement),
+        Err(StatementFault::OutOfMemory) => Err(RunFault::OutOfMemory),
+        Err(StatementFault::Member(fault)) => Err(RunFault::MessageRefused(fault)),
+        Err(StatementFault::NotEmpty) => Err(RunFault::Refused(CoseError::UnexpectedItem)),
+        Err(StatementFault::NotCompound) => Err(RunFault::Refused(CoseError::UnexpectedItem)),
+    }
+}
+
+/// Decodes the leading data item of the bytes as a statement of this format, and encodes it. Returns
+/// the encoding, and the item's length. Returns `MessageRefused` if its map has a fault, `Refused` if there is no data item or it isn't such a
+/// statement for another reason, and `OutOfMemory` if an allocation fails.
+pub(crate) fn rewrite_statement(
+    alloc: Global,
+    format: AttestationFormat,
+    bytes: &[u8],
+) -> Result<(Vec<u8>, usize), RunFault>
+    ensures ok { IfOk result
+        (λ made. RewritesStatement format bytes.now made.0.items × IsFrontLength bytes.now made.1) }
+    ensures err { IfErr result (IsStatementRefusal format bytes.now) }
+{
+    let (value, len) = Value::from_slice(alloc, bytes)?;
+    let statement = statement_from(alloc, format, &value)?;
+    let value = statement.to_value(alloc)?;
+    Ok((value.to_vec(alloc)?, len))
+}

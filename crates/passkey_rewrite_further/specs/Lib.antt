@@ -1,3 +1,0 @@
-pub mod JsonKinds
-pub mod Kinds
-pub mod Rewriting

@@ -1,0 +1,144 @@
+//! The parts of the messages that `passkey_show` doesn't have, which are replaced by copies.
+use crate::again_bytes::Copied;
+use crate::tries::{Part, Tries};
+use passkey_types::OutOfMemory;
+use passkey_types::ctap2::further_extensions::{
+    PrfValue, get_assertion as used, make_credential as made,
+};
+use passkey_types::ctap2::{
+    Kept, bio_enrollment, client_pin, config, credential_management, get_info_23, large_blobs,
+};
+use std::alloc::Global;
+
+impl Part for Kept {
+    fn copy(&self, alloc: Global) -> Result<Kept, OutOfMemory> {
+        Kept::new(self.try_clone(alloc)?.into_value()).ok_or(OutOfMemory)
+    }
+}
+
+impl Copied for client_pin::Request {
+    fn replace_parts(&mut self, alloc: Global, tries: &mut Tries) -> Result<(), OutOfMemory> {
+        if let Some(permissions) = self.permissions {
+            let copy = client_pin::Permissions::from_bits(permissions.bits());
+            tries.compare(permissions.contains(copy));
+            self.permissions = Some(copy | permissions);
+        }
+        tries.replace_some(alloc, &mut self.key_agreement)
+    }
+}
+
+impl Copied for client_pin::Response {
+    fn replace_parts(&mut self, alloc: Global, tries: &mut Tries) -> Result<(), OutOfMemory> {
+        tries.replace_some(alloc, &mut self.key_agreement)
+    }
+}
+
+impl Copied for bio_enrollment::Request {
+    fn replace_parts(&mut self, alloc: Global, tries: &mut Tries) -> Result<(), OutOfMemory> {
+        tries.replace_some(alloc, &mut self.pin_uv_auth_param)
+    }
+}
+
+impl Copied for bio_enrollment::Response {
+    fn replace_parts(&mut self, alloc: Global, tries: &mut Tries) -> Result<(), OutOfMemory> {
+        tries.replace_some(alloc, &mut self.template_id)
+    }
+}
+
+impl Copied for credential_management::Request {
+    fn replace_parts(&mut self, alloc: Global, tries: &mut Tries) -> Result<(), OutOfMemory> {
+        tries.replace_some(alloc, &mut self.pin_uv_auth_param)
+    }
+}
+
+impl Copied for credential_management::Response {
+    fn replace_parts(&mut self, alloc: Global, tries: &mut Tries) -> Result<(), OutOfMemory> {
+        tries.replace_some(alloc, &mut self.credential_id)?;
+        tries.replace_some(alloc, &mut self.public_key)
+    }
+}
+
+impl Copied for large_blobs::Request {
+    fn replace_parts(&mut self, alloc: Global, tries: &mut Tries) -> Result<(), OutOfMemory> {
+        tries.replace_some(alloc, &mut self.set)
+    }
+}
+
+impl Copied for large_blobs::Response {
+    fn replace_parts(&mut self, alloc: Global, tries: &mut Tries) -> Result<(), OutOfMemory> {
+        tries.replace_some(alloc, &mut self.config)
+    }
+}
+
+impl Copied for large_blobs::LargeBlob {
+    fn replace_parts(&mut self, alloc: Global, tries: &mut Tries) -> Result<(), OutOfMemory> {
+        tries.replace(alloc, &mut self.ciphertext)
+    }
+}
+
+impl Copied for config::Request {
+    fn replace_parts(&mut self, alloc: Global, tries: &mut Tries) -> Result<(), OutOfMemory> {
+        tries.replace_some(alloc, &mut self.sub_command_params)
+    }
+}
+
+impl Copied for config::MinPinLengthParameters {
+    fn replace_parts(&mut self, _alloc: Global, _tries: &mut Tries) -> Result<(), OutOfMemory> {
+        Ok(())
+    }
+}
+
+impl Copied for config::VendorParameters {
+    fn replace_parts(&mut self, _alloc: Global, _tries: &mut Tries) -> Result<(), OutOfMemory> {
+        Ok(())
+    }
+}
+
+impl Copied for get_info_23::Response {
+    fn replace_parts(&mut self, alloc: Global, tries: &mut Tries) -> Result<(), OutOfMemory> {
+        tries.replace_some(alloc, &mut self.certifications)
+    }
+}
+
+impl Copied for made::ExtensionInputs {
+    fn replace_parts(&mut self, alloc: Global, tries: &mut Tries) -> Result<(), OutOfMemory> {
+        tries.replace_some(alloc, &mut self.hmac_secret_mc)
+    }
+}
+
+impl Copied for made::SignedExtensionOutputs {
+    fn replace_parts(&mut self, alloc: Global, tries: &mut Tries) -> Result<(), OutOfMemory> {
+        tries.replace_some(alloc, &mut self.hmac_secret_mc)
+    }
+}
+
+impl Copied for made::UnsignedExtensionOutputs {
+    fn replace_parts(&mut self, _alloc: Global, tries: &mut Tries) -> Result<(), OutOfMemory> {
+        if let Some(outputs) = &mut self.prf
+            && let Some(values) = &mut outputs.results
+        {
+            let copy = PrfValue::new(values.first.bytes());
+            tries.compare(values.first == copy);
+            values.first = copy;
+        }
+        Ok(())
+    }
+}
+
+impl Copied for used::ExtensionInputs {
+    fn replace_parts(&mut self, alloc: Global, tries: &mut Tries) -> Result<(), OutOfMemory> {
+        tries.replace_some(alloc, &mut self.hmac_secret)
+    }
+}
+
+impl Copied for used::SignedExtensionOutputs {
+    fn replace_parts(&mut self, alloc: Global, tries: &mut Tries) -> Result<(), OutOfMemory> {
+        tries.replace_some(alloc, &mut self.cred_blob)
+    }
+}
+
+impl Copied for used::UnsignedExtensionOutputs {
+    fn replace_parts(&mut self, _alloc: Global, _tries: &mut Tries) -> Result<(), OutOfMemory> {
+        Ok(())
+    }
+}

@@ -1,0 +1,68 @@
+//! Diagnostic notation (RFC 8949, section 8), and where bytes aren't well-formed (section 3).
+use crate::hexadecimal::decode;
+use passkey_rewrite::RunFault;
+use passkey_types::cbor::Value;
+use passkey_types::ctap2::explain::{Malformed, malformed};
+use passkey_types::diagnose::{
+    diagnose, diagnose_bytes, diagnose_bytes_indented, diagnose_indented,
+};
+use std::alloc::Global;
+
+/// Returns the lines as one, each but the last with `\n` after it.
+fn in_one_line(alloc: Global, text: &str) -> Result<String, RunFault> {
+    let mut out = String::new(alloc);
+    for (number, line) in text.split('\n').enumerate() {
+        if number > 0 {
+            out.push_str("\\n")?;
+        }
+        out.push_str(line)?;
+    }
+    Ok(out)
+}
+
+/// `BYTES`: the leading data item in diagnostic notation, in a line or in several.
+fn item(alloc: Global, is_indented: bool, input: &str) -> Result<String, RunFault> {
+    let bytes = decode(alloc, input)?;
+    let (value, _len) = Value::from_slice(alloc, &bytes)?;
+    if is_indented {
+        in_one_line(alloc, diagnose_indented(alloc, &value)?.as_str())
+    } else {
+        Ok(diagnose(alloc, &value)?)
+    }
+}
+
+/// `BYTES`: the same with how each item is encoded; `none` if no data item is there.
+fn encodings(alloc: Global, is_indented: bool, input: &str) -> Result<String, RunFault> {
+    let bytes = decode(alloc, input)?;
+    let text = if is_indented {
+        diagnose_bytes_indented(alloc, &bytes)?
+    } else {
+        diagnose_bytes(alloc, &bytes)?
+    };
+    match text {
+        Some(text) => in_one_line(alloc, text.as_str()),
+        None => Ok(String::from_str(alloc, "none")?),
+    }
+}
+
+/// `BYTES`: the offset from which they don't begin a well-formed data item, and the reason; `none` if
+/// they do.
+fn ill_formed(alloc: Global, input: &str) -> Result<String, RunFault> {
+    let bytes = decode(alloc, input)?;
+    let Some(Malformed { offset, why }) = malformed(&bytes) else {
+        return Ok(String::from_str(alloc, "none")?);
+    };
+    Ok(format!(in alloc; "{offset} {why:?}")?)
+}
+
+/// Returns the output of a row of such a kind. Returns `None` if it isn't a row of such a kind.
+pub fn notation_row(alloc: Global, name: &str, input: &str) -> Option<Result<String, RunFault>> {
+    match name {
+        "diag" => Some(item(alloc, false, input)),
+        "diag-lines" => Some(item(alloc, true, input)),
+        "diag-bytes" => Some(encodings(alloc, false, input)),
+        "diag-bytes-lines" => Some(encodings(alloc, true, input)),
+        "malformed" => Some(ill_formed(alloc, input)),
+        _ => None,
+    }
+}

@@ -1,0 +1,189 @@
+//! Messages of any kind, decoded and encoded in several ways.
+use crate::again_bytes::{Copied, auth_again, encoded, item_again, message_again};
+use crate::again_json::json_again;
+use crate::by_item::{by_item, info_by_items};
+use crate::heads::{Counts, heads};
+use crate::hexadecimal::{decode, encode};
+use crate::tries::Tries;
+use passkey_catalogue::{Form, FurtherKind, Kind, visit};
+use passkey_rewrite::{BytesKind, RunFault};
+use passkey_run::Visitor;
+use passkey_types::ctap2::extensions::HmacGetSecretInput;
+use passkey_types::ctap2::framing::from_body;
+use passkey_types::ctap2::further_extensions::{get_assertion as used, make_credential as made};
+use passkey_types::ctap2::{
+    Message, ToCbor, bio_enrollment, client_pin, config, credential_management, get_assertion,
+    get_info, get_info_23, large_blobs, make_credential,
+};
+use std::alloc::Global;
+
+/// What is done with a message.
+#[derive(Clone, Copy)]
+pub enum Way {
+    /// It is decoded and encoded.
+    Once,
+    /// The same with copies of its parts.
+    Again,
+    /// It is decoded from a data item, and encoded by way of one.
+    ByItem,
+    /// What decoding costs is counted.
+    Counted(Counts),
+    /// It is decoded as the body of a request or a response, which may be empty.
+    Body,
+}
+
+/// A message is decoded and encoded.
+#[derive(Drop)]
+struct Once<'a, 'b> {
+    alloc: Global,
+    tries: &'a mut Tries,
+    /// Whether the bytes are the body of a request or a response.
+    is_body: bool,
+    bytes: &'b [u8],
+}
+
+impl<'a, 'b> Visitor for Once<'a, 'b> {
+    type Output = Result<Vec<u8>, RunFault>;
+
+    type Other = Form;
+
+    ghost Gives = { λ v d result. Unit {0} };
+
+    fn visit_item(self) -> Result<Vec<u8>, RunFault> {
+        Err(RunFault::UnknownKind)
+    }
+
+    fn visit_data(self) -> Result<Vec<u8>, RunFault> {
+        Err(RunFault::UnknownKind)
+    }
+
+    fn visit_message<M: Message>(self) -> Result<Vec<u8>, RunFault> {
+        let (message, _len) = if self.is_body {
+            from_body::<M>(self.alloc, self.bytes)?
+        } else {
+            M::from_slice(self.alloc, self.bytes)?
+        };
+        Ok(encoded(self.alloc, self.tries, &message)?)
+    }
+
+    fn visit_other(self, _what: Form) -> Result<Vec<u8>, RunFault> {
+        Err(RunFault::UnknownKind)
+    }
+}
+
+/// Decodes a message whose parts can be copied, and encodes it with copies of them, or by way of data
+/// items.
+fn in_parts<M: Message + Copied + ToCbor>(
+    alloc: Global,
+    tries: &mut Tries,
+    is_by_item: bool,
+    bytes: &[u8],
+) -> Result<Vec<u8>, RunFault> {
+    if is_by_item {
+        by_item::<M>(alloc, tries, bytes)
+    } else {
+        message_again::<M>(alloc, tries, bytes)
+    }
+}
+
+fn shown_in_parts(
+    alloc: Global,
+    tries: &mut Tries,
+    kind: BytesKind,
+    by: bool,
+    bytes: &[u8],
+) -> Result<Vec<u8>, RunFault> {
+    match kind {
+        BytesKind::Cbor | BytesKind::Auth if by => Err(RunFault::UnknownKind),
+        BytesKind::Cbor => item_again(alloc, tries, bytes),
+        BytesKind::Auth => auth_again(alloc, tries, bytes),
+        BytesKind::MakeRequest => in_parts::<make_credential::Request>(alloc, tries, by, bytes),
+        BytesKind::MakeResponse => in_parts::<make_credential::Response>(alloc, tries, by, bytes),
+        BytesKind::GetRequest => in_parts::<get_assertion::Request>(alloc, tries, by, bytes),
+        BytesKind::GetResponse => in_parts::<get_assertion::Response>(alloc, tries, by, bytes),
+        BytesKind::Info if by => info_by_items(alloc, tries, bytes),
+        BytesKind::Info => message_again::<get_info::Response>(alloc, tries, bytes),
+        BytesKind::HmacInput => in_parts::<HmacGetSecretInput>(alloc, tries, by, bytes),
+    }
+}
+
+fn other_in_parts(
+    alloc: Global,
+    tries: &mut Tries,
+    kind: FurtherKind,
+    by: bool,
+    bytes: &[u8],
+) -> Result<Vec<u8>, RunFault> {
+    match kind {
+        FurtherKind::PinRequest => in_parts::<client_pin::Request>(alloc, tries, by, bytes),
+        FurtherKind::PinResponse => in_parts::<client_pin::Response>(alloc, tries, by, bytes),
+        FurtherKind::BioRequest => in_parts::<bio_enrollment::Request>(alloc, tries, by, bytes),
+        FurtherKind::BioResponse => in_parts::<bio_enrollment::Response>(alloc, tries, by, bytes),
+        FurtherKind::CredentialRequest => in_parts::<credential_management::Request>(
+            alloc, tries, by, bytes,
+        ),
+        FurtherKind::CredentialResponse => in_parts::<credential_management::Response>(
+            alloc, tries, by, bytes,
+        ),
+        FurtherKind::BlobsRequest => in_parts::<large_blobs::Request>(alloc, tries, by, bytes),
+        FurtherKind::BlobsResponse => in_parts::<large_blobs::Response>(alloc, tries, by, bytes),
+        FurtherKind::BlobsEntry => in_parts::<large_blobs::LargeBlob>(alloc, tries, by, bytes),
+        FurtherKind::ConfigRequest => in_parts::<config::Request>(alloc, tries, by, bytes),
+        FurtherKind::ConfigMinPinLength => in_parts::<config::MinPinLengthParameters>(
+            alloc, tries, by, bytes,
+        ),
+        FurtherKind::ConfigVendor => in_parts::<config::VendorParameters>(alloc, tries, by, bytes),
+        FurtherKind::Info23 => in_parts::<get_info_23::Response>(alloc, tries, by, bytes),
+        FurtherKind::MakeInputs => in_parts::<made::ExtensionInputs>(alloc, tries, by, bytes),
+        FurtherKind::MakeOutputs => in_parts::<made::SignedExtensionOutputs>(
+            alloc, tries, by, bytes,
+        ),
+        FurtherKind::MakeUnsigned => in_parts::<made::UnsignedExtensionOutputs>(
+            alloc, tries, by, bytes,
+        ),
+        FurtherKind::GetInputs => in_parts::<used::ExtensionInputs>(alloc, tries, by, bytes),
+        FurtherKind::GetOutputs => in_parts::<used::SignedExtensionOutputs>(
+            alloc, tries, by, bytes,
+        ),
+        FurtherKind::GetUnsigned => in_parts::<used::UnsignedExtensionOutputs>(
+            alloc, tries, by, bytes,
+        ),
+        _ => Err(RunFault::UnknownKind),
+    }
+}
+
+/// Returns the output of a message's row.
+pub fn message_row(
+    alloc: Global,
+    tries: &mut Tries,
+    way: Way,
+    kind: Kind,
+    input: &str,
+) -> Result<String, RunFault> {
+    let by = match (way, kind) {
+        (Way::Counted(counts), kind) => return heads(alloc, counts, kind, input),
+        (Way::Again, Kind::Json(kind)) => return json_again(alloc, tries, kind, input),
+        (Way::ByItem, _) => true,
+        _ => false,
+    };
+    let bytes = decode(alloc, input)?;
+    let encoding = match (way, kind) {
+        (Way::Once | Way::Body | Way::Counted(_), kind) => {
+            let is_body = matches!(way, Way::Body);
+            let bytes = &bytes;
+            visit(
+                kind,
+                Once {
+                    alloc,
+                    tries,
+                    is_body,
+                    bytes,
+                },
+            )?
+        }
+        (_, Kind::Bytes(kind)) => shown_in_parts(alloc, tries, kind, by, &bytes)?,
+        (_, Kind::Further(kind)) => other_in_parts(alloc, tries, kind, by, &bytes)?,
+        _ => return Err(RunFault::UnknownKind),
+    };
+    encode(alloc, &encoding)
+}

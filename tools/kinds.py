@@ -1,0 +1,43 @@
+"""The kinds of input, as the tables of the sources list them: what the tools that name kinds share."""
+
+import re
+from pathlib import Path
+
+CRATES = Path(__file__).resolve().parent.parent / "crates"
+
+# The tables, in the order of their numbers in C: each enumeration, its file, and whether it is one of JSON texts.
+TABLES = [
+    ("BytesKind", "passkey_run/src/kind.rt", False),
+    ("JsonKind", "passkey_run/src/kind.rt", True),
+    ("FurtherKind", "passkey_catalogue/src/further_kind.rt", False),
+    ("FurtherJsonKind", "passkey_catalogue/src/json_kind.rt", True),
+]
+NUMBERS = "passkey_catalogue/src/kind.rt"
+
+
+def names_of(table):
+    """Returns the names of an enumeration's values, in the order of its table."""
+    enumeration, file, _ = table
+    return re.findall(rf'\("([a-z0-9-]+)", {enumeration}::\w+\)', (CRATES / file).read_text(encoding="utf-8"))
+
+
+def names():
+    """Returns all kinds, in the order of their tables."""
+    return [name for it in TABLES for name in names_of(it)]
+
+
+def numbers():
+    """Returns each kind that has a number in C, and its number, in their order."""
+    text = (CRATES / NUMBERS).read_text(encoding="utf-8")
+    first = {name: int(number) for name, number in re.findall(r"placed::<(\w+)>\(number, (\d+)\)", text)}
+    return {name: first[it[0]] + at for it in TABLES if it[0] in first for at, name in enumerate(names_of(it))}
+
+
+def of_bytes():
+    """Returns the kinds of bytes."""
+    return [name for it in TABLES if not it[2] for name in names_of(it)]
+
+
+def of_show():
+    """Returns the kinds of bytes that passkey_show has, without `check`, and those of JSON."""
+    return names_of(TABLES[0]), names_of(TABLES[1])
