@@ -1,5 +1,5 @@
-//! Tests of `passkey_cbor`, `passkey_malformed`, `passkey_bytes`, `passkey_cose`, `passkey_core` and
-//! `passkey_webauthn`: values from the standards, printed texts, and calls that need memory.
+//! Tests of `passkey_cbor`, `passkey_bytes`, `passkey_cose`, `passkey_core` and `passkey_webauthn`: values
+//! from the standards, printed texts, and calls that need memory.
 #![tactic(auto)]
 
 #[cfg(test)]
@@ -24,8 +24,6 @@ mod entities;
 mod items;
 #[cfg(test)]
 mod key_order;
-#[cfg(test)]
-mod malformed;
 #[cfg(test)]
 mod names;
 #[cfg(test)]

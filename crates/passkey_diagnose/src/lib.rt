@@ -4,8 +4,6 @@
 mod bytes_text;
 mod diagnosis;
 mod float;
-#[cfg(test)]
-mod tests;
 mod text;
 
 pub use bytes_text::{diagnose_bytes, diagnose_bytes_indented};

@@ -6,9 +6,6 @@ use passkey_diagnose::{diagnose, quote};
 use passkey_memory::OutOfMemory;
 use std::alloc::Global;
 
-#[cfg(test)]
-mod tests;
-
 /// An item whose parts follow: how many are left, or `None` for those up to a break.
 #[derive(Clone, Copy)]
 struct Open(Option<u64>);
