@@ -19,10 +19,10 @@ use passkey_types::ctap2::make_credential::Response;
 use passkey_types::ctap2::{AttestedCredentialData, AuthenticatorData, Flags};
 use passkey_types::json::Value;
 use passkey_types::webauthn::{
-    AttestationConveyancePreference, BytesForm, ClientDataType, CreatedPublicKeyCredential,
-    CredentialCreationOptions, JsonRecord, PublicKeyCredentialCreationOptions,
-    PublicKeyCredentialParameters, PublicKeyCredentialRpEntity, PublicKeyCredentialUserEntity,
-    ToJson,
+    AttestationConveyancePreference, AuthenticatorAttestationResponse, BytesForm, ClientDataType,
+    CreatedPublicKeyCredential, CredentialCreationOptions, JsonRecord,
+    PublicKeyCredentialCreationOptions, PublicKeyCredentialParameters, PublicKeyCredentialRpEntity,
+    PublicKeyCredentialUserEntity, ToJson,
 };
 use passkey_types::{Bytes, OutOfMemory, Text};
 use std::alloc::Global;
@@ -45,15 +45,13 @@ pub fn creation_options(
     challenge: Bytes,
     user: PublicKeyCredentialUserEntity,
 ) -> Result<String, OutOfMemory> {
-    let rp = PublicKeyCredentialRpEntity {
-        id: Some(Text::from_str(alloc, RP_ID)?),
-        name: Text::from_str(alloc, "Example")?,
-    };
+    let rp = relying_party(alloc)?;
+    let algorithms = PublicKeyCredentialParameters::default_algorithms(alloc)?;
     let public_key = PublicKeyCredentialCreationOptions {
         rp,
         user,
         challenge,
-        pub_key_cred_params: PublicKeyCredentialParameters::default_algorithms(alloc)?,
+        pub_key_cred_params: algorithms,
         timeout: Some(300_000),
         exclude_credentials: None,
         authenticator_selection: None,
@@ -62,8 +60,20 @@ pub fn creation_options(
         attestation_formats: None,
         extensions: None,
     };
-    let options = CredentialCreationOptions { public_key };
-    let json = options.to_json(alloc, BytesForm::Base64Url)?;
+    json_text(alloc, &CredentialCreationOptions { public_key })
+}
+
+fn relying_party(alloc: Global) -> Result<PublicKeyCredentialRpEntity, OutOfMemory> {
+    let name = Text::from_str(alloc, "Example")?;
+    Ok(PublicKeyCredentialRpEntity {
+        id: Some(Text::from_str(alloc, RP_ID)?),
+        name,
+    })
+}
+
+/// Returns the record as a JSON text.
+pub(crate) fn json_text<R: ToJson>(alloc: Global, record: &R) -> Result<String, OutOfMemory> {
+    let json = record.to_json(alloc, BytesForm::Base64Url)?;
     Ok(json.to_string(alloc)?)
 }
 
@@ -72,19 +82,31 @@ pub fn creation_options(
 pub fn register(alloc: Global, challenge: &[u8], answer: &str) -> Result<CredentialRecord, Rejected>
     ensures { IfOk result (λ new. length new.credential_id ≤ 1023) }
 {
+    let answered = decoded(alloc, answer)?;
+    let data = checked_data(alloc, challenge, &answered.response)?;
+    record(alloc, data, answered.raw_id.as_slice())
+}
+
+fn decoded(alloc: Global, answer: &str) -> Result<CreatedPublicKeyCredential, Rejected> {
     let json = Value::from_str(alloc, answer)?;
-    let answered = CreatedPublicKeyCredential::from_json(alloc, &json)?;
-    let response = answered.response;
+    Ok(CreatedPublicKeyCredential::from_json(alloc, &json)?)
+}
+
+/// Checks the client data, and returns the authenticator data.
+fn checked_data(
+    alloc: Global,
+    challenge: &[u8],
+    response: &AuthenticatorAttestationResponse,
+) -> Result<AuthenticatorData, Rejected> {
     let client_data = response.client_data_json.as_slice();
     check_client_data(alloc, ClientDataType::Create, challenge, client_data)?;
-    let data = attested_data(alloc, response.attestation_object.as_slice())?;
-    record(alloc, data, answered.raw_id.as_slice())
+    attested_data(alloc, response.attestation_object.as_slice())
 }
 
 /// Returns the authenticator data of an attestation object, which is a CTAP2 response with names
 /// instead of numbers. Bytes behind the data are rejected.
 fn attested_data(alloc: Global, object: &[u8]) -> Result<AuthenticatorData, Rejected> {
-    let (_response, _len) = Response::from_slice(alloc, object)?;
+    drop(Response::from_slice(alloc, object)?);
     let Some(token) = Response::auth_data_bytes(object) else {
         return Err(Rejected::Check("no authenticator data"));
     };
@@ -104,21 +126,32 @@ fn record(
     ensures { IfOk result (λ new. length new.credential_id ≤ 1023) }
 {
     unless(wrong_data(&data))?;
-    let is_user_verified = data.flags.contains(Flags::UV);
-    let is_backup_eligible = data.flags.contains(Flags::BE);
-    let counter = data.counter.unwrap_or(0);
+    let (flags, counter) = (data.flags, data.counter.unwrap_or(0));
     // Matching the field itself would use `data` after a part of it was moved.
     let attested = data.attested_credential_data;
-    let Some(attested) = attested else {
-        return Err(Rejected::Check("no credential"));
-    };
+    match attested {
+        Some(attested) => new_record(alloc, attested, flags, counter, raw_id),
+        None => Err(Rejected::Check("no credential")),
+    }
+}
+
+fn new_record(
+    alloc: Global,
+    attested: AttestedCredentialData,
+    flags: Flags,
+    counter: u32,
+    raw_id: &[u8],
+) -> Result<CredentialRecord, Rejected>
+    ensures { IfOk result (λ new. length new.credential_id ≤ 1023) }
+{
     unless(wrong_credential(&attested, raw_id))?;
+    let credential_id = Bytes::from_slice(alloc, attested.credential_id())?;
     Ok(CredentialRecord {
-        credential_id: Bytes::from_slice(alloc, attested.credential_id())?,
+        credential_id,
         public_key: attested.key,
         counter,
-        is_user_verified,
-        is_backup_eligible,
+        is_user_verified: flags.contains(Flags::UV),
+        is_backup_eligible: flags.contains(Flags::BE),
     })
 }
 

@@ -12,14 +12,14 @@ ghost use Rattle.sha2.specs.Sha256.{sha256};
 
 use crate::RP_ID;
 use crate::checks::{Rejected, check_client_data, unless, wrong_data};
-use crate::registration::CredentialRecord;
+use crate::registration::{CredentialRecord, json_text};
 use passkey_types::bitflags::Flags as _;
 use passkey_types::ctap2::{AuthenticatorData, Flags};
 use passkey_types::json::Value;
 use passkey_types::webauthn::{
-    AttestationConveyancePreference, AuthenticatedPublicKeyCredential, BytesForm, ClientDataType,
-    CredentialRequestOptions, JsonRecord, PublicKeyCredentialDescriptor,
-    PublicKeyCredentialRequestOptions, PublicKeyCredentialType, ToJson,
+    AttestationConveyancePreference, AuthenticatedPublicKeyCredential,
+    AuthenticatorAssertionResponse, ClientDataType, CredentialRequestOptions, JsonRecord,
+    PublicKeyCredentialDescriptor, PublicKeyCredentialRequestOptions, PublicKeyCredentialType,
     UserVerificationRequirement,
 };
 use passkey_types::{Bytes, List, OutOfMemory, Text};
@@ -45,25 +45,32 @@ pub fn request_options(
     challenge: Bytes,
     record: &CredentialRecord,
 ) -> Result<String, OutOfMemory> {
-    let allowed = PublicKeyCredentialDescriptor {
-        ty: PublicKeyCredentialType::PublicKey,
-        id: record.credential_id.try_clone(alloc)?,
-        transports: None,
-    };
+    let rp_id = Text::from_str(alloc, RP_ID)?;
+    let allowed = allowed(alloc, record)?;
     let public_key = PublicKeyCredentialRequestOptions {
         challenge,
         timeout: Some(300_000),
-        rp_id: Some(Text::from_str(alloc, RP_ID)?),
-        allow_credentials: Some(List::from(vec![in alloc; allowed]?)),
+        rp_id: Some(rp_id),
+        allow_credentials: Some(allowed),
         user_verification: UserVerificationRequirement::Preferred,
         hints: None,
         attestation: AttestationConveyancePreference::None,
         attestation_formats: None,
         extensions: None,
     };
-    let options = CredentialRequestOptions { public_key };
-    let json = options.to_json(alloc, BytesForm::Base64Url)?;
-    Ok(json.to_string(alloc)?)
+    json_text(alloc, &CredentialRequestOptions { public_key })
+}
+
+fn allowed(
+    alloc: Global,
+    record: &CredentialRecord,
+) -> Result<List<PublicKeyCredentialDescriptor>, OutOfMemory> {
+    let descriptor = PublicKeyCredentialDescriptor {
+        ty: PublicKeyCredentialType::PublicKey,
+        id: record.credential_id.try_clone(alloc)?,
+        transports: None,
+    };
+    Ok(List::from(vec![in alloc; descriptor]?))
 }
 
 /// Checks the browser's answer to options with this challenge that allow this passkey alone, up to
@@ -74,23 +81,55 @@ pub fn sign_in(
     record: &CredentialRecord,
     answer: &str,
 ) -> Result<Assertion, Rejected> {
-    let json = Value::from_str(alloc, answer)?;
-    let answered = AuthenticatedPublicKeyCredential::from_json(alloc, &json)?;
+    let answered = decoded(alloc, answer)?;
     if answered.raw_id != record.credential_id {
         return Err(Rejected::Check("another credential"));
     }
     let response = answered.response;
+    let Checked {
+        signed,
+        counter,
+        is_user_verified,
+    } = check(alloc, challenge, record, &response)?;
+    Ok(Assertion {
+        signed,
+        signature: response.signature,
+        counter,
+        is_user_verified,
+    })
+}
+
+fn decoded(alloc: Global, answer: &str) -> Result<AuthenticatedPublicKeyCredential, Rejected> {
+    let json = Value::from_str(alloc, answer)?;
+    Ok(AuthenticatedPublicKeyCredential::from_json(alloc, &json)?)
+}
+
+/// What is known of a sign-in beside its signature.
+#[derive(Drop)]
+struct Checked {
+    signed: Vec<u8>,
+    counter: u32,
+    is_user_verified: bool,
+}
+
+/// Checks the client data and the authenticator data.
+fn check(
+    alloc: Global,
+    challenge: &[u8],
+    record: &CredentialRecord,
+    response: &AuthenticatorAssertionResponse,
+) -> Result<Checked, Rejected> {
     let client_data = response.client_data_json.as_slice();
     check_client_data(alloc, ClientDataType::Get, challenge, client_data)?;
     let bytes = response.authenticator_data.as_slice();
     let data = AuthenticatorData::from_slice_exact(alloc, bytes)?;
-    unless(wrong_data(&data))?;
-    unless(wrong_since(record, &data))?;
-    Ok(Assertion {
+    unless(wrong_data(&data).or(wrong_since(record, &data)))?;
+    let (flags, counter) = (data.flags, data.counter.unwrap_or(0));
+    drop(data);
+    Ok(Checked {
         signed: signed_bytes(alloc, bytes, client_data)?,
-        signature: response.signature,
-        counter: data.counter.unwrap_or(0),
-        is_user_verified: data.flags.contains(Flags::UV),
+        counter,
+        is_user_verified: flags.contains(Flags::UV),
     })
 }
 
