@@ -19,12 +19,33 @@ pub enum InspectFault {
     BadBase64,
     /// An argument is none of the program's; status 2.
     BadArguments,
+    /// A name that should be a kind's isn't; the text says so; status 2.
+    NoKind(String),
+    /// There is no file of the name, and it is no kind's; the text says so; status 4.
+    NoFile(String),
+}
+
+fn with_line(mut text: String, line: &str) -> Result<String, OutOfMemory> {
+    text.push('\n')?;
+    text.push_str(line)?;
+    Ok(text)
 }
 
 impl InspectFault {
     /// Returns the fault for an input that this kind refuses, for the reason in the text.
     pub fn refused(alloc: Global, kind: &str, text: &str) -> Result<InspectFault, OutOfMemory> {
         Ok(InspectFault::Refused(format!(in alloc; "{kind} refuses it: {text}")?))
+    }
+
+    /// Returns the fault with another line.
+    pub fn with_line(self, line: &str) -> Result<InspectFault, OutOfMemory> {
+        match self {
+            InspectFault::Refused(text) => Ok(InspectFault::Refused(with_line(text, line)?)),
+            InspectFault::RefusedPage(text, page) => {
+                Ok(InspectFault::RefusedPage(with_line(text, line)?, page))
+            }
+            fault => Ok(fault),
+        }
     }
 
     /// Returns what goes to standard output all the same.
@@ -41,7 +62,8 @@ impl InspectFault {
             InspectFault::Run(fault) => fault.status(),
             InspectFault::Refused(_) | InspectFault::RefusedPage(_, _) | InspectFault::BadBase64 =>
                 1,
-            InspectFault::BadArguments => 2,
+            InspectFault::BadArguments | InspectFault::NoKind(_) => 2,
+            InspectFault::NoFile(_) => 4,
         }
     }
 }
@@ -50,9 +72,10 @@ impl fmt::Display for InspectFault {
     fn fmt<W: fmt::Write>(&self, f: &mut fmt::Formatter<W>) -> fmt::Result {
         match self {
             InspectFault::Run(fault) => write!(f, "{fault}"),
-            InspectFault::Refused(text) | InspectFault::RefusedPage(text, _) => {
-                f.write_str(text.as_str())
-            }
+            InspectFault::Refused(text)
+            | InspectFault::RefusedPage(text, _)
+            | InspectFault::NoKind(text)
+            | InspectFault::NoFile(text) => f.write_str(text.as_str()),
             InspectFault::BadBase64 => f.write_str("BadBase64"),
             InspectFault::BadArguments => f.write_str("bad arguments; --help lists them"),
         }

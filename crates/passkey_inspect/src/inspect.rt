@@ -1,6 +1,6 @@
 //! One run: reads bytes, and returns what is printed.
 ghost use Rattle.std.specs.Prelude.{◌≡◌, ◌++◌, ◌∷◌, [], IfOk, string_bytes};
-ghost use Rattle.passkey_inspect.specs.Prints.{Prints, PrintsAs, PrintsBytes, PrintsInput, ShowsBytes, ShowsEncoding, ShowsItem, ShowsJson};
+ghost use Rattle.passkey_inspect.specs.Prints.{IsMessageIn, Prints, PrintsAs, PrintsBytes, PrintsInput, ShowsBytes, ShowsEncoding, ShowsItem, ShowsJson};
 
 use crate::encode::encode;
 use crate::examine::{Contents, Examined, examine};
@@ -287,6 +287,35 @@ fn print_found(alloc: Global, output: Output, body: &Body<'_>) -> Result<String,
     }
 }
 
+/// Returns what stands before a message, and lends the message, which is all of the bytes if its kind
+/// was named.
+fn message_of(kind: Option<InspectKind>, bytes: &[u8]) -> (Frame, &[u8])
+    ensures { IsMessageIn bytes.now result.1.now }
+{
+    match kind {
+        Some(_) => (Frame::None, bytes),
+        None => frame_of(bytes),
+    }
+}
+
+/// Returns the fault with the form that was assumed, where that may be another one than was meant.
+fn with_form(
+    alloc: Global,
+    fault: InspectFault,
+    form: Form,
+    len: usize,
+) -> Result<InspectFault, OutOfMemory> {
+    if len == 0 {
+        return fault.with_line("input: no bytes");
+    }
+    if form == Form::Hexadecimal {
+        return Ok(fault);
+    }
+    let form = form_name(form);
+    let line = format!(in alloc; "input: {form}, {len} bytes; --from names another form")?;
+    fault.with_line(line.as_str())
+}
+
 /// Returns what is printed of the bytes that an input spells in this form.
 fn print_bytes(
     alloc: Global,
@@ -296,7 +325,7 @@ fn print_bytes(
 ) -> Result<String, InspectFault>
     ensures { IfOk result (λ text. PrintsBytes options.now.output bytes.now (string_bytes text)) }
 {
-    let (frame, message) = frame_of(bytes);
+    let (frame, message) = message_of(options.kind, bytes);
     let body = Body {
         form,
         len: bytes.len(),
@@ -328,7 +357,12 @@ pub fn inspect(alloc: Global, options: &Options<'_>, input: &[u8]) -> Result<Str
         return print_record(alloc, options, input);
     }
     match bytes_as(alloc, form, input)? {
-        Some(bytes) => print_bytes(alloc, options, form, bytes.as_slice()),
+        Some(bytes) => match print_bytes(alloc, options, form, bytes.as_slice()) {
+            Err(fault) if options.form.is_none() => {
+                Err(with_form(alloc, fault, form, bytes.len())?)
+            }
+            result => result,
+        },
         None if form == Form::Hexadecimal => Err(InspectFault::Run(RunFault::BadHex)),
         None => Err(InspectFault::BadBase64),
     }

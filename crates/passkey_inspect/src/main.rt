@@ -9,31 +9,36 @@ mod fault;
 mod frame;
 mod inspect;
 mod kind;
+mod nearest;
 mod options;
 mod records;
 mod refusal;
 mod structure;
 
 use fault::InspectFault;
+use nearest::{no_file, no_kind};
 use options::{HELP, Options, VERSION, options_of};
 use passkey_run::{RunFault, read_all, read_words, write_all};
 use std::alloc::Global;
 use std::fs;
-use std::io::{Read, Write};
+use std::io::{ErrorKind, Read, Write};
 use std::process::ExitCode;
 use std::rt::{Env, Files};
 
+/// Reads the file, or the reader if the file's name is a hyphen or none is named.
 fn read_input<R: Files + AllocGlobal>(
     rt: &R,
     reader: &mut impl Read,
     file: Option<&str>,
-) -> Result<Vec<u8>, RunFault> {
-    let Some(path) = file else {
-        return read_all(rt.alloc(), reader);
-    };
+) -> Result<Vec<u8>, InspectFault> {
+    let path = file.unwrap_or("-");
+    if path == "-" {
+        return Ok(read_all(rt.alloc(), reader)?);
+    }
     match fs::open(rt, path) {
-        Ok(mut file) => read_all(rt.alloc(), &mut file),
-        Err(_) => Err(RunFault::InputFailed),
+        Ok(mut file) => Ok(read_all(rt.alloc(), &mut file)?),
+        Err(error) if error.kind() == ErrorKind::NotFound => Err(no_file(rt.alloc(), path)?),
+        Err(_) => Err(InspectFault::Run(RunFault::InputFailed)),
     }
 }
 
@@ -49,6 +54,9 @@ fn show<R: Env + Files + AllocGlobal>(
     }
     if options.version {
         return Ok(write_all(writer, VERSION.as_bytes())?);
+    }
+    if let Some(word) = options.stray {
+        return Err(no_kind(rt.alloc(), word)?);
     }
     let input = read_input(rt, reader, options.file)?;
     match inspect::inspect(rt.alloc(), &options, input.as_slice()) {

@@ -6,33 +6,49 @@ use passkey_inspect_input::Form;
 /// What `--help` prints.
 pub const HELP: &str = "passkey_inspect [OPTION].. [KIND] [FILE]
 
-Tells what is in a passkey message, or where it is refused. Without a FILE it reads standard input.
+Tells what is in a passkey message, or where it is refused. Without a FILE, or if FILE is -, it
+reads standard input. It takes hexadecimal (also with spaces, colons, quotes, 0x, as h'01', and as
+xxd and hexdump -C dump it), base64, base64url, JSON and raw bytes.
 
-  --json     prints the message as JSON, with members by their names
-  --diag     prints the data item in diagnostic notation (RFC 8949)
-  --diag=bytes
-             the same, and how each item is encoded
-  --hex      prints the data item's bytes, head by head, with what each means
-  --cbor     prints the message encoded again, in hexadecimal
-  --html     prints a page of HTML: the members by their names beside their bytes, or what is refused
-  --from F   the input's form: hex, base64, raw or json
-  --help     prints this
-  --version  prints the version
+  --json        JSON, with members by their names       passkey_inspect --json info FILE
+  --diag        diagnostic notation (RFC 8949)          passkey_inspect --diag FILE
+  --diag=bytes  the same, and how each item is encoded  passkey_inspect --diag=bytes FILE
+  --hex         the bytes head by head, explained       passkey_inspect --hex FILE
+  --cbor        encoded again, in hexadecimal           passkey_inspect --cbor info FILE
+  --html        a page: members beside their bytes      passkey_inspect --html FILE >page.html
+  --from FORM   hex, base64, raw or json                passkey_inspect --from raw auth FILE
+  -h, --help    this text
+  --version     the version
 
-Without a KIND it is found. The kinds of bytes: auth, bio-request, bio-response, cbor,
-cfg-min-pin-length, cfg-request, cfg-vendor, cm-request, cm-response, cose-key, ga-request,
-ga-response, hmac-input, info, lb-entry, lb-request, lb-response, mc-request, mc-response,
-pin-request, pin-response; and of JSON: authenticated, client-data, created, creation, request.
-Others are never found, but have to be named: info-23 (CTAP 2.3); extensions, mc-inputs, mc-outputs,
-mc-unsigned, ga-inputs, ga-outputs, ga-unsigned; attestation statements, att-packed, att-tpm,
-att-android-key, att-android-safetynet, att-fido-u2f, att-none, att-apple, att-compound; the
-structures of a TPM, tpm-cert-info, tpm-pub-area; and of JSON: signal-unknown, signal-accepted,
-signal-details, client-inputs, client-outputs, mediated-creation, mediated-request, client-data-top,
-client-data-payment, capabilities.
+Without a KIND it is found, and a leading command byte or status byte 00 is taken off. A KIND that
+is named takes all of the bytes. These kinds are found:
+
+  registration    mc-request, mc-response (also an attestation object); JSON: creation, created
+  sign-in         ga-request, ga-response, hmac-input; JSON: request, authenticated
+  parts           auth (authenticator data), cose-key, cbor (any data item); JSON: client-data
+  authenticator   info
+  PIN             pin-request, pin-response
+  biometrics      bio-request, bio-response
+  credentials     cm-request, cm-response
+  large blobs     lb-request, lb-response, lb-entry
+  configuration   cfg-request, cfg-min-pin-length, cfg-vendor
+
+These have to be named:
+
+  CTAP 2.3        info-23
+  extensions      mc-inputs, mc-outputs, mc-unsigned, ga-inputs, ga-outputs, ga-unsigned;
+                  JSON: client-inputs, client-outputs
+  attestation     att-packed, att-tpm, att-android-key, att-android-safetynet, att-fido-u2f,
+                  att-none, att-apple, att-compound; of a TPM: tpm-cert-info, tpm-pub-area
+  JSON            mediated-creation, mediated-request, client-data-top, client-data-payment,
+                  capabilities, signal-unknown, signal-accepted, signal-details
+
+Status: 0 done, 1 refused, 2 bad arguments, 3 out of memory, 4 a read or a write failed.
+passkey_show KIND prints a message encoded again, and nothing else (docs/PROGRAM.md).
 ";
 
 /// What `--version` prints.
-pub const VERSION: &str = "passkey_inspect 0.1.0\n";
+pub const VERSION: &str = "passkey_inspect 0.2.0\n";
 
 /// What is printed.
 #[derive(Clone, Copy, Debug, PartialEq, Eq)]
@@ -58,8 +74,10 @@ pub enum Output {
 pub struct Options<'a> {
     /// The kind of the input; `None` if it is to be found.
     pub kind: Option<InspectKind>,
-    /// The file that is read; `None` for standard input.
+    /// The file that is read; `None` and a hyphen for standard input.
     pub file: Option<&'a str>,
+    /// An operand before the file that is no kind's name, if no kind was named.
+    pub stray: Option<&'a str>,
     /// What is printed.
     pub output: Output,
     /// The input's form; `None` if it is to be found.
@@ -89,7 +107,7 @@ fn set_option(options: &mut Options<'_>, word: &str) -> bool {
         "--hex" => options.output = Output::Dump,
         "--cbor" => options.output = Output::Encoding,
         "--html" => options.output = Output::Page,
-        "--help" => options.help = true,
+        "-h" | "--help" => options.help = true,
         "--version" => options.version = true,
         _ => return false,
     }
@@ -97,26 +115,34 @@ fn set_option(options: &mut Options<'_>, word: &str) -> bool {
 }
 
 /// Takes an argument that is no option: a kind, if none was named, and else a file. Returns whether
-/// it is one.
+/// it is one. A file before another one is no kind, where none was named.
 fn set_operand<'a>(options: &mut Options<'a>, word: &'a str) -> bool {
-    if options.file.is_some() {
-        return false;
-    }
     match kind_named(word) {
-        Some(kind) if options.kind.is_none() => options.kind = Some(kind),
-        _ => options.file = Some(word),
+        Some(kind) if options.kind.is_none() && options.stray.is_none() => {
+            options.kind = Some(kind);
+            return true;
+        }
+        _ => {}
     }
+    if options.file.is_some() {
+        if options.kind.is_some() || options.stray.is_some() {
+            return false;
+        }
+        options.stray = options.file;
+    }
+    options.file = Some(word);
     true
 }
 
-/// Returns the options, or `None` if an argument is none, or is one too many. A word that begins
-/// with two hyphens is an option, `--from` has a value behind it or an equals sign, and the last of
-/// contradicting options is taken. The first operand that is the name of a kind is the kind, and
-/// another is the file.
+/// Returns the options, or `None` if an argument is none, or is one too many. `-h`, and a word that
+/// begins with two hyphens, is an option; `--from` has a value behind it or an equals sign, and the
+/// last of contradicting options is taken. The first operand that is the name of a kind is the kind,
+/// and another is the file.
 pub fn options_of(words: &[String]) -> Option<Options<'_>> {
     let mut options = Options {
         kind: None,
         file: None,
+        stray: None,
         output: Output::Report,
         form: None,
         help: false,
@@ -132,7 +158,7 @@ pub fn options_of(words: &[String]) -> Option<Options<'_>> {
             takes_form = true;
         } else if let Some(name) = word.strip_prefix("--from=") {
             options.form = Some(form_named(name)?);
-        } else if word.starts_with("--") {
+        } else if word == "-h" || word.starts_with("--") {
             if !set_option(&mut options, word) {
                 return None;
             }
