@@ -86,7 +86,7 @@ fn left_out<M: Message>(alloc: Global, bytes: &[u8]) -> Result<String, OutOfMemo
 /// (CTAP 2.1, section 8).
 fn examine_message<M: Message>(alloc: Global, bytes: &[u8]) -> Result<Examined, OutOfMemory> {
     if let Some(explanation) = explain::<M>(alloc, bytes)? {
-        return message_refused(alloc, bytes, &explanation);
+        return message_refused::<M>(alloc, bytes, &explanation);
     }
     match Value::from_slice(alloc, bytes) {
         Ok((value, len)) => {

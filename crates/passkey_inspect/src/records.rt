@@ -193,26 +193,25 @@ fn accepts(alloc: Global, kind: InspectKind, input: &[u8]) -> Result<bool, RunFa
     }
 }
 
-/// Returns the kind that the members of a value suggest.
-fn likely_kind(value: &Value) -> InspectKind {
-    if value.pointer("/response/attestationObject").is_some() {
-        return InspectKind::Json(JsonKind::Created);
-    }
-    if value.pointer("/response").is_some() {
-        return InspectKind::Json(JsonKind::Authenticated);
-    }
-    if value.pointer("/publicKey/rp").is_some() {
-        return InspectKind::Json(JsonKind::Creation);
-    }
-    if value.pointer("/publicKey").is_some() {
-        return InspectKind::Json(JsonKind::Request);
-    }
-    InspectKind::Json(JsonKind::ClientData)
+/// Returns the kind of which a member of the value tells.
+fn told_kind(value: &Value) -> Option<InspectKind> {
+    let kind = if value.pointer("/response/attestationObject").is_some() {
+        JsonKind::Created
+    } else if value.pointer("/response").is_some() {
+        JsonKind::Authenticated
+    } else if value.pointer("/publicKey/rp").is_some() {
+        JsonKind::Creation
+    } else if value.pointer("/publicKey").is_some() {
+        JsonKind::Request
+    } else {
+        return None;
+    };
+    Some(InspectKind::Json(kind))
 }
 
-/// Returns what is printed of a JSON text: of the kind that was named, or else of the first that
-/// accepts it. Returns the fault of the kind; if none was named and none accepts the text, of the
-/// one that its members suggest.
+/// Returns what is printed of a JSON text: of the kind that was named, or else of the one of which
+/// its members tell, or else of the first that accepts it. Returns the fault of that kind, or of
+/// client data if there is none.
 pub fn print_record(
     alloc: Global,
     options: &Options<'_>,
@@ -232,6 +231,7 @@ pub fn print_record(
             best = best.or(Some(kind));
         }
     }
-    let kind = best.unwrap_or(likely_kind(&value));
+    let client_data = InspectKind::Json(JsonKind::ClientData);
+    let kind = told_kind(&value).or(best).unwrap_or(client_data);
     print_as(alloc, options.output, kind, names.as_slice(), input)
 }

@@ -1,11 +1,11 @@
 //! Why a kind refuses bytes, in two lines, and where.
 
 use crate::examine::Examined;
-use passkey_cbor::{CborError, Cursor, Head};
+use passkey_cbor::{CborError, Cursor, Head, Value};
 use passkey_cose::CoseError;
-use passkey_explain::{Explanation, Extent, Reason, RefusedItem, Step};
+use passkey_explain::{Blame, Explanation, Extent, Reason, RefusedItem, Step};
 use passkey_explain_data::{DataReason, DataRefusal, KeyRefusal, explain_data, locate_key};
-use passkey_kinds::{Fault, Wanted};
+use passkey_kinds::{Fault, Form, FromCbor, Message, Wanted};
 use passkey_malformed::{Malformed, malformed};
 use passkey_memory::OutOfMemory;
 use std::alloc::Global;
@@ -84,6 +84,17 @@ pub fn key_refused(
     Ok(Examined::Refused(text, Some(extent)))
 }
 
+fn not_well_formed(
+    alloc: Global,
+    bytes: &[u8],
+    malformed: Malformed,
+) -> Result<Examined, OutOfMemory> {
+    let fault = Fault::DecodeFailed;
+    let text = format!(in alloc; "{fault}\n{malformed}")?;
+    let extent = extent_from(malformed, bytes.len());
+    Ok(Examined::Refused(text, Some(extent)))
+}
+
 /// Returns the refusal of bytes that don't begin with a well-formed data item.
 pub fn cbor_refused(
     alloc: Global,
@@ -92,10 +103,7 @@ pub fn cbor_refused(
 ) -> Result<Examined, OutOfMemory> {
     match (error, malformed(bytes)) {
         (CborError::OutOfMemory, _) => Err(OutOfMemory),
-        (_, Some(malformed)) => {
-            let explanation = Explanation::NotWellFormed(malformed);
-            message_refused(alloc, bytes, &explanation)
-        }
+        (_, Some(malformed)) => not_well_formed(alloc, bytes, malformed),
         (error, None) => Ok(Examined::Refused(format!(in alloc; "{error}")?, None)),
     }
 }
@@ -144,7 +152,35 @@ fn member_name(path: &[Step]) -> Option<&'static str> {
     }
 }
 
-fn item_refused(alloc: Global, bytes: &[u8], item: &RefusedItem) -> Result<Examined, OutOfMemory> {
+/// Returns the name of the member that is missing, if one is, of the message or of a record in it.
+fn missing_name<M: Message>(
+    alloc: Global,
+    blame: &Blame,
+) -> Result<Option<&'static str>, OutOfMemory> {
+    let Reason::Fault(Fault::Missing(number)) = blame.reason else {
+        return Ok(None);
+    };
+    let mut way = Vec::new(alloc);
+    for step in &blame.path {
+        way.push(match step {
+            Step::Member(_, member, _) => *member,
+            _ => 0,
+        })?;
+    }
+    match M::look(alloc, &way, &Value::Null)?.form {
+        Form::Record(_, rows) => {
+            let row = rows.iter().find(|row| row.number() == number);
+            Ok(row.map(|row| row.name()))
+        }
+        _ => Ok(None),
+    }
+}
+
+fn item_refused<M: Message>(
+    alloc: Global,
+    bytes: &[u8],
+    item: &RefusedItem,
+) -> Result<Examined, OutOfMemory> {
     let fault = item.fault;
     if let Some(name) = member_name(item.blame.path.as_slice()) {
         if let Some(refusal) = refusal_inside(alloc, bytes, item)? {
@@ -152,23 +188,23 @@ fn item_refused(alloc: Global, bytes: &[u8], item: &RefusedItem) -> Result<Exami
             return Ok(Examined::Refused(text, Some(data_extent(&refusal))));
         }
     }
-    let text = format!(in alloc; "{fault}\n{item}")?;
+    let mut text = format!(in alloc; "{fault}\n{item}")?;
+    if let Some(name) = missing_name::<M>(alloc, &item.blame)? {
+        text.push_str(": ")?;
+        text.push_str(name)?;
+    }
     Ok(Examined::Refused(text, Some(item.extent)))
 }
 
-/// Returns the refusal of a message: the item that is refused, or what in its authenticator data is.
-pub fn message_refused(
+/// Returns the refusal of a message: the item that is refused, or what in its authenticator data
+/// is, or the name of the member that is missing.
+pub fn message_refused<M: Message>(
     alloc: Global,
     bytes: &[u8],
     explanation: &Explanation,
 ) -> Result<Examined, OutOfMemory> {
     match explanation {
-        Explanation::NotWellFormed(malformed) => {
-            let fault = Fault::DecodeFailed;
-            let text = format!(in alloc; "{fault}\n{malformed}")?;
-            let extent = extent_from(*malformed, bytes.len());
-            Ok(Examined::Refused(text, Some(extent)))
-        }
-        Explanation::Refused(item) => item_refused(alloc, bytes, item),
+        Explanation::NotWellFormed(malformed) => not_well_formed(alloc, bytes, *malformed),
+        Explanation::Refused(item) => item_refused::<M>(alloc, bytes, item),
     }
 }
