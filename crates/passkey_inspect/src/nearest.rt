@@ -8,7 +8,7 @@ use passkey_webauthn::EnumNames;
 use std::alloc::Global;
 use strsim::osa_distance;
 
-/// The most letters in which a name may differ from a kind's that it may have meant.
+/// The number of letters in which a name has to differ from a kind's not to be near it.
 const FAR: usize = 3;
 
 /// The nearest of the names so far, and in how many letters it differs.
