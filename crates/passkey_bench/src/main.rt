@@ -5,9 +5,12 @@
 
 use anyhow::{Result, bail};
 use passkey_cbor::{Cursor, Value, item_len};
+use passkey_get_assertion as get_assertion;
+use passkey_get_info as get_info;
+use passkey_kinds::Message;
+use passkey_make_credential as make_credential;
 use passkey_rewrite_json::rewrite_json;
 use passkey_run::JsonKind;
-use passkey_types::ctap2::{Message, get_assertion, get_info, make_credential};
 use std::alloc::Global;
 use std::env;
 use std::io::Read;
