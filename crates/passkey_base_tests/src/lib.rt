@@ -15,8 +15,6 @@ mod cose_keys;
 #[cfg(test)]
 mod ctap2;
 #[cfg(test)]
-mod cursor;
-#[cfg(test)]
 mod encoder;
 #[cfg(test)]
 mod entities;
@@ -28,5 +26,3 @@ mod key_order;
 mod names;
 #[cfg(test)]
 mod printed;
-#[cfg(test)]
-mod strings;
