@@ -34,8 +34,9 @@ fn statement_from(
 }
 
 /// Decodes the leading data item of the bytes as a statement of this format, and encodes it. Returns
-/// the encoding, and the item's length. Returns `MessageRefused` if its map has a fault, `Refused` if there is no data item or it isn't such a
-/// statement for another reason, and `OutOfMemory` if an allocation fails.
+/// the encoding, and the item's length. Returns `MessageRefused` if its map has a fault, `Refused` if
+/// there is no data item or it isn't such a statement for another reason, and `OutOfMemory` if an
+/// allocation fails.
 pub(crate) fn rewrite_statement(
     alloc: Global,
     format: AttestationFormat,
