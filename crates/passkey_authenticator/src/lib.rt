@@ -4,9 +4,6 @@
 
 ghost use Rattle.std.specs.Prelude.{◌≢◌, ◌<◌, length, IfErr, IfOk, IfSome};
 
-#[cfg(test)]
-mod tests;
-
 use passkey_types::cbor::Value;
 use passkey_types::cose::iana::Algorithm;
 use passkey_types::ctap2::make_credential::{Request, Response};

@@ -22,4 +22,6 @@ mod records;
 #[cfg(test)]
 mod signed_bytes;
 #[cfg(test)]
+mod streams;
+#[cfg(test)]
 mod tables;

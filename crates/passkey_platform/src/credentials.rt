@@ -3,10 +3,10 @@ ghost use Rattle.std.specs.Prelude.{◌≡◌, ◌∷◌, [], IfOk, take};
 
 use crate::exchange::framed;
 use crate::{Failed, PinUvAuthProtocol};
-use passkey_types::Bytes;
 use passkey_types::ctap2::Message;
 use passkey_types::ctap2::credential_management::{Parameters, Request, SubCommand};
 use passkey_types::ctap2::framing::Command;
+use passkey_types::{Bytes, OutOfMemory};
 use sha2::{Digest, Sha256};
 use std::alloc::Global;
 
@@ -21,22 +21,35 @@ pub fn credentials_request<P: PinUvAuthProtocol>(
 ) -> Result<Vec<u8>, Failed>
     ensures { IfOk result (λ request. take 1 request.items ≡ 0x0A ∷ []) }
 {
+    let mut request = enumeration(alloc, protocol.number(), rp_id)?;
+    let code = code_of(alloc, protocol, token, &request)?;
+    request.pin_uv_auth_param = Some(Bytes::from(code));
+    let body = request.to_vec(alloc);
+    drop(request);
+    Ok(framed(alloc, Command::CredentialManagement, &body?)?)
+}
+
+/// Returns the request that is to be authenticated.
+fn enumeration(alloc: Global, protocol: u8, rp_id: &str) -> Result<Request, OutOfMemory> {
     let hash = Bytes::from_slice(alloc, &Sha256::digest(rp_id.as_bytes()))?;
-    let mut request = Request {
+    Ok(Request {
         sub_command: SubCommand::EnumerateCredentialsBegin,
         sub_command_params: Some(Parameters {
             rp_id_hash: Some(hash),
             ..Parameters::default()
         }),
-        pin_uv_auth_protocol: Some(protocol.number()),
+        pin_uv_auth_protocol: Some(protocol),
         ..Request::default()
-    };
+    })
+}
+
+/// Returns the message authentication code of a request.
+fn code_of<P: PinUvAuthProtocol>(
+    alloc: Global,
+    protocol: &P,
+    token: &[u8],
+    request: &Request,
+) -> Result<Vec<u8>, Failed> {
     let message = request.authenticated_bytes(alloc, &request.to_vec(alloc)?)?;
-    let code = protocol.authenticate(alloc, token, &message)?;
-    request.pin_uv_auth_param = Some(Bytes::from(code));
-    Ok(framed(
-        alloc,
-        Command::CredentialManagement,
-        &request.to_vec(alloc)?,
-    )?)
+    protocol.authenticate(alloc, token, &message)
 }

@@ -6,8 +6,6 @@
 mod credentials;
 mod exchange;
 mod protocol;
-#[cfg(test)]
-mod tests;
 mod token;
 
 pub use credentials::credentials_request;

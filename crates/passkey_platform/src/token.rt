@@ -23,13 +23,11 @@ pub fn token_by_pin<T: Transport, P: PinUvAuthProtocol>(
     permissions: Permissions,
     rp_id: Option<Text>,
 ) -> Result<Vec<u8>, Failed> {
-    let info: get_info::Response = exchange(alloc, transport, Command::GetInfo, &[])?;
-    unless(unsupported(&info, protocol.number()))?;
-    let peer = key_of_authenticator(alloc, transport, protocol.number())?;
-    let (key, secret) = protocol.encapsulate(alloc, &peer)?;
+    check_support(alloc, transport, protocol.number())?;
+    let (key, secret) = shared_secret(alloc, transport, protocol)?;
     let hash = protocol.encrypt(alloc, &secret, &pin_hash(pin))?;
     let request = Request {
-        key_agreement: Kept::new(key.to_value(alloc)?),
+        key_agreement: key,
         pin_hash_enc: Some(Bytes::from(hash)),
         permissions: Some(permissions),
         rp_id,
@@ -38,12 +36,48 @@ pub fn token_by_pin<T: Transport, P: PinUvAuthProtocol>(
             SubCommand::GetPinUvAuthTokenUsingPinWithPermissions,
         )
     };
-    let body = request.to_vec(alloc)?;
-    let response: Response = exchange(alloc, transport, Command::ClientPin, &body)?;
-    let Some(token) = &response.pin_uv_auth_token else {
-        return Err(Failed::Check("no token"));
-    };
+    let token = encrypted_token(alloc, transport, request)?;
     protocol.decrypt(alloc, &secret, token.as_slice())
+}
+
+/// Asks the authenticator what it supports, and fails if that lacks something.
+fn check_support<T: Transport>(
+    alloc: Global,
+    transport: &mut T,
+    protocol: u8,
+) -> Result<(), Failed> {
+    let info: get_info::Response = exchange(alloc, transport, Command::GetInfo, &[])?;
+    unless(unsupported(&info, protocol))
+}
+
+/// Returns the platform's public key, and the secret that it shares with the authenticator's.
+fn shared_secret<T: Transport, P: PinUvAuthProtocol>(
+    alloc: Global,
+    transport: &mut T,
+    protocol: &P,
+) -> Result<(Option<Kept>, Vec<u8>), Failed> {
+    let peer = key_of_authenticator(alloc, transport, protocol.number())?;
+    let (key, secret) = protocol.encapsulate(alloc, &peer)?;
+    drop(peer);
+    let item = key.to_value(alloc);
+    drop(key);
+    Ok((Kept::new(item?), secret))
+}
+
+/// Sends a request for a token, and returns the token, encrypted.
+fn encrypted_token<T: Transport>(
+    alloc: Global,
+    transport: &mut T,
+    request: Request,
+) -> Result<Bytes, Failed> {
+    let body = request.to_vec(alloc);
+    drop(request);
+    let response: Response = exchange(alloc, transport, Command::ClientPin, &body?)?;
+    let token = response.pin_uv_auth_token;
+    match token {
+        Some(token) => Ok(token),
+        None => Err(Failed::Check("no token")),
+    }
 }
 
 /// Returns a request of this subcommand with no other members.

@@ -7,8 +7,6 @@ mod checks;
 mod package_name;
 mod registration;
 mod signing_in;
-#[cfg(test)]
-mod tests;
 
 pub use checks::Rejected;
 pub use package_name::PackageName;

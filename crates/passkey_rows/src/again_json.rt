@@ -2,7 +2,7 @@
 use crate::tries::Tries;
 use passkey_rewrite::{JsonKind, RunFault};
 use passkey_types::OutOfMemory;
-use passkey_types::json::Value;
+use passkey_types::json::{Error, Value};
 use passkey_types::webauthn::{
     AuthenticatedPublicKeyCredential, AuthenticationExtensionsClientInputs,
     AuthenticationExtensionsClientOutputs, BytesForm, ClientDataExtra, CollectedClientData,
@@ -81,10 +81,14 @@ impl CopiedRecord for AuthenticatedPublicKeyCredential {
     }
 }
 
+pub fn is_out_of_memory(error: &Error) -> bool {
+    error.classify() == Category::Memory
+}
+
 pub fn parsed(alloc: Global, text: &str) -> Result<Value, RunFault> {
     match Value::from_str(alloc, text) {
         Ok(value) => Ok(value),
-        Err(error) if error.classify() == Category::Memory => Err(RunFault::OutOfMemory),
+        Err(error) if is_out_of_memory(&error) => Err(RunFault::OutOfMemory),
         Err(_) => Err(RunFault::BadJson),
     }
 }

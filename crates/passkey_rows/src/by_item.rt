@@ -1,23 +1,12 @@
 //! Messages that are decoded from a data item in memory, and encoded by way of one.
 use crate::again_bytes::{encoded, encoded_item};
+use crate::decoding::from_item;
 use crate::tries::Tries;
 use passkey_rewrite::RunFault;
 use passkey_types::OutOfMemory;
 use passkey_types::cbor::Value;
-use passkey_types::ctap2::{Fault, FromCbor, Message, Refusal, ToCbor, get_info};
+use passkey_types::ctap2::{FromCbor, Message, Refusal, ToCbor, get_info};
 use std::alloc::Global;
-
-/// Decodes the message from the leading data item, and tries again if memory ran out.
-fn from_item<M: Message>(alloc: Global, tries: &mut Tries, bytes: &[u8]) -> Result<M, RunFault> {
-    let (item, _len) = Value::from_slice(alloc, bytes)?;
-    match M::from_value(alloc, &item) {
-        Err(Fault::OutOfMemory) => {
-            tries.refuse();
-            Ok(M::from_value(alloc, &item)?)
-        }
-        other => Ok(other?),
-    }
-}
 
 /// Returns the value's data item, and tries again if memory ran out.
 fn item_of<T: ToCbor>(alloc: Global, tries: &mut Tries, value: &T) -> Result<Value, OutOfMemory> {
@@ -51,7 +40,7 @@ pub fn by_item<M: Message + ToCbor>(
     tries: &mut Tries,
     bytes: &[u8],
 ) -> Result<Vec<u8>, RunFault> {
-    let message = from_item::<M>(alloc, tries, bytes)?;
+    let (message, _len) = from_item::<M>(alloc, tries, bytes)?;
     let item = item_of(alloc, tries, &message)?;
     Ok(encoded_item(alloc, tries, &item)?)
 }
@@ -71,7 +60,7 @@ fn replace_parts(
 
 /// The response has no data item of its own, but its parts have.
 pub fn info_by_items(alloc: Global, tries: &mut Tries, bytes: &[u8]) -> Result<Vec<u8>, RunFault> {
-    let mut info = from_item::<get_info::Response>(alloc, tries, bytes)?;
+    let (mut info, _len) = from_item::<get_info::Response>(alloc, tries, bytes)?;
     replace_parts(alloc, tries, &mut info)?;
     Ok(encoded(alloc, tries, &info)?)
 }

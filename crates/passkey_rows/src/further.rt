@@ -1,6 +1,7 @@
 //! Rows of kinds that `passkey_show` doesn't have: messages of any kind, and the bytes that are sent
 //! around them.
 use crate::attestation::attestation_row;
+use crate::ceremonies::ceremony_row;
 use crate::extensions::extensions_row;
 use crate::heads::Counts;
 use crate::hexadecimal::{decode, encode};
@@ -8,6 +9,7 @@ use crate::lenient::lenient_row;
 use crate::lenient_json::lenient_json_row;
 use crate::level_3::level_3_row;
 use crate::notation::notation_row;
+use crate::platform::platform_row;
 use crate::tries::Tries;
 use crate::ways::{Way, message_row};
 use passkey_catalogue::Kind;
@@ -140,6 +142,12 @@ pub fn further_row(
         return Some(output);
     }
     if let Some(output) = notation_row(alloc, name, input) {
+        return Some(output);
+    }
+    if let Some(output) = ceremony_row(alloc, name, input) {
+        return Some(output);
+    }
+    if let Some(output) = platform_row(alloc, name, input) {
         return Some(output);
     }
     if let Some(output) = lenient_row(alloc, tries, name, input) {

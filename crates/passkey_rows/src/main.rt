@@ -13,7 +13,9 @@ mod alike;
 mod attestation;
 mod building;
 mod by_item;
+mod ceremonies;
 mod copied;
+mod decoding;
 mod extensions;
 mod further;
 mod heads;
@@ -24,6 +26,7 @@ mod level_3;
 mod making;
 mod notation;
 mod parts;
+mod platform;
 mod setting;
 mod tries;
 mod ways;
@@ -52,7 +55,7 @@ fn output_of(alloc: Global, tries: &mut Tries, row: &str) -> Result<String, RunF
 fn is_decoded_alike(alloc: Global, row: &str) -> Result<bool> {
     let (name, input) = row.split_once(' ').unwrap_or((row, ""));
     match passkey_catalogue::Kind::from_name(name) {
-        Some(kind) => are_decoded_alike(alloc, kind, input),
+        Some(kind) => Ok(are_decoded_alike(alloc, kind, input)?),
         None => Ok(true),
     }
 }

@@ -12,7 +12,7 @@ use passkey_types::{Bytes, OutOfMemory};
 use std::alloc::Global;
 
 /// Returns the first word, and what follows the space after it.
-fn first_word(text: &str) -> (&str, &str) {
+pub fn first_word(text: &str) -> (&str, &str) {
     text.split_once(' ').unwrap_or((text, ""))
 }
 

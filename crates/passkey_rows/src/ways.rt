@@ -1,15 +1,14 @@
 //! Messages of any kind, decoded and encoded in several ways.
-use crate::again_bytes::{Copied, auth_again, encoded, item_again, message_again};
+use crate::again_bytes::{Copied, auth_again, item_again, message_again};
 use crate::again_json::json_again;
 use crate::by_item::{by_item, info_by_items};
+use crate::decoding::{Source, decode_as};
 use crate::heads::{Counts, heads};
 use crate::hexadecimal::{decode, encode};
 use crate::tries::Tries;
-use passkey_catalogue::{Form, FurtherKind, Kind, visit};
+use passkey_catalogue::{FurtherKind, Kind};
 use passkey_rewrite::{BytesKind, RunFault};
-use passkey_run::Visitor;
 use passkey_types::ctap2::extensions::HmacGetSecretInput;
-use passkey_types::ctap2::framing::from_body;
 use passkey_types::ctap2::further_extensions::{get_assertion as used, make_credential as made};
 use passkey_types::ctap2::{
     Message, ToCbor, bio_enrollment, client_pin, config, credential_management, get_assertion,
@@ -30,45 +29,6 @@ pub enum Way {
     Counted(Counts),
     /// It is decoded as the body of a request or a response, which may be empty.
     Body,
-}
-
-/// A message is decoded and encoded.
-#[derive(Drop)]
-struct Once<'a, 'b> {
-    alloc: Global,
-    tries: &'a mut Tries,
-    /// Whether the bytes are the body of a request or a response.
-    is_body: bool,
-    bytes: &'b [u8],
-}
-
-impl<'a, 'b> Visitor for Once<'a, 'b> {
-    type Output = Result<Vec<u8>, RunFault>;
-
-    type Other = Form;
-
-    ghost Gives = { λ v d result. Unit {0} };
-
-    fn visit_item(self) -> Result<Vec<u8>, RunFault> {
-        Err(RunFault::UnknownKind)
-    }
-
-    fn visit_data(self) -> Result<Vec<u8>, RunFault> {
-        Err(RunFault::UnknownKind)
-    }
-
-    fn visit_message<M: Message>(self) -> Result<Vec<u8>, RunFault> {
-        let (message, _len) = if self.is_body {
-            from_body::<M>(self.alloc, self.bytes)?
-        } else {
-            M::from_slice(self.alloc, self.bytes)?
-        };
-        Ok(encoded(self.alloc, self.tries, &message)?)
-    }
-
-    fn visit_other(self, _what: Form) -> Result<Vec<u8>, RunFault> {
-        Err(RunFault::UnknownKind)
-    }
 }
 
 /// Decodes a message whose parts can be copied, and encodes it with copies of them, or by way of data
@@ -152,6 +112,23 @@ fn other_in_parts(
     }
 }
 
+/// Decodes and encodes a message.
+fn once(
+    alloc: Global,
+    tries: &mut Tries,
+    source: Source,
+    kind: Kind,
+    bytes: &[u8],
+) -> Result<Vec<u8>, RunFault> {
+    match decode_as(alloc, tries, kind, source, bytes) {
+        Some(decoded) => {
+            let (encoding, _len) = decoded.outcome?;
+            Ok(encoding)
+        }
+        None => Err(RunFault::UnknownKind),
+    }
+}
+
 /// Returns the output of a message's row.
 pub fn message_row(
     alloc: Global,
@@ -161,26 +138,15 @@ pub fn message_row(
     input: &str,
 ) -> Result<String, RunFault> {
     let by = match (way, kind) {
-        (Way::Counted(counts), kind) => return heads(alloc, counts, kind, input),
+        (Way::Counted(counts), kind) => return heads(alloc, tries, counts, kind, input),
         (Way::Again, Kind::Json(kind)) => return json_again(alloc, tries, kind, input),
         (Way::ByItem, _) => true,
         _ => false,
     };
     let bytes = decode(alloc, input)?;
     let encoding = match (way, kind) {
-        (Way::Once | Way::Body | Way::Counted(_), kind) => {
-            let is_body = matches!(way, Way::Body);
-            let bytes = &bytes;
-            visit(
-                kind,
-                Once {
-                    alloc,
-                    tries,
-                    is_body,
-                    bytes,
-                },
-            )?
-        }
+        (Way::Once, kind) => once(alloc, tries, Source::Bytes, kind, &bytes)?,
+        (Way::Body, kind) => once(alloc, tries, Source::Body, kind, &bytes)?,
         (_, Kind::Bytes(kind)) => shown_in_parts(alloc, tries, kind, by, &bytes)?,
         (_, Kind::Further(kind)) => other_in_parts(alloc, tries, kind, by, &bytes)?,
         _ => return Err(RunFault::UnknownKind),

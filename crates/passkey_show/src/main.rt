@@ -5,8 +5,6 @@
 #![tactic(auto)]
 
 mod run;
-#[cfg(test)]
-mod tests;
 
 use passkey_run::{RunFault, kind_of, read_words};
 use std::io::{Read, Write};
