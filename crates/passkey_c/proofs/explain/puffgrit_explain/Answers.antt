@@ -10,8 +10,8 @@ returns-in-Some c =
     let d = definition c.in-Some.kind in
     let input = c.args.input.now in
     let old : Memory = record
-        { read = c.args.read.now; refusal = c.args.refusal.now; text = c.args.out.now; len = c.args.len.now } in
+    { read = c.args.read.now; refusal = c.args.refusal.now; text = c.args.out.now; len = c.args.len.now } in
     let new : Memory = record
-        { read = c.tell.new.read; refusal = c.tell.new.refusal; text = c.tell.new.out; len = c.tell.new.len } in
+    { read = c.tell.new.read; refusal = c.tell.new.refusal; text = c.tell.new.out; len = c.tell.new.len } in
     subst (λ (k : Option Kind). ExplainsAs k input old new c.tell.result) c.in-Some.ensures
     (explains_of (Accepts d input) (Tells d input) (IsUnexplained d) c.judge.result c.judge.ensures c.tell.ensures)
