@@ -1,10 +1,12 @@
 -- What is printed of bytes.
-use Rattle.std.specs.Prelude.{◌≡◌, ◌⊎◌, ℕ, List, [], ◌∷◌, ◌++◌, Some, ⊤}
+use Rattle.std.specs.Prelude.{◌≡◌, ◌⊎◌, ℕ, List, [], ◌∷◌, ◌++◌, Some, ⊤, flat_map}
+use Rattle.std.specs.Str.{chars}
 use Rattle.hex.specs.Hex.{encode_lower}
 use Rattle.passkey_cbor.specs.Item.{Item}
 use Rattle.passkey_cbor.specs.LeadingItem.{IsLeadingItem}
 use Rattle.passkey_diagnose.specs.Diagnosis.{diagnosis}
 use Rattle.passkey_diagnose.specs.BytesText.{bytes_diagnosis}
+use Rattle.passkey_diagnose.specs.Quoted.{visible_text}
 use Rattle.passkey_explain.specs.Described.{Described}
 use Rattle.passkey_report.specs.Json.{json_text}
 use Rattle.passkey_inspect_input.specs.Input.{bytes_as}
@@ -73,11 +75,17 @@ RewritesText (kind.Json k) = RewritesJson (json_rewritten k)
 RewritesText (kind.FurtherJson k) = RewritesJson (further_json_rewritten k)
 RewritesText _ = λ input text. ⊥
 
--- What is printed of a JSON text as some kind: the record that it is decoded to, in a line. Nothing is said of reports.
+-- The text with each character escaped that a terminal could take as a command.
+abbrev pub visible : List ℕ → List ℕ
+visible text = flat_map visible_text (chars text)
+
+-- What is printed of a JSON text as some kind: as JSON the record that it is decoded to, in a line. Nothing is said of
+-- reports, and the other options are for bytes.
 abbrev pub PrintsRecord : Output → List ℕ → List ℕ → Type 0
 PrintsRecord Report input line = ⊤
-PrintsRecord _ input line =
-    (k : Kind) × (text : List ℕ) × RewritesText k input text × (line ≡ text ++ 10 ∷ [])
+PrintsRecord JsonText input line =
+    (k : Kind) × (text : List ℕ) × RewritesText k input text × (line ≡ visible text ++ 10 ∷ [])
+PrintsRecord _ input line = ⊥
 
 -- What is printed of an input that spells bytes in some form.
 pub record PrintsSpelled (output : Output) (input line : List ℕ) : Type 0 where

@@ -1,5 +1,6 @@
 //! Why a run of the program failed.
 
+use crate::options::Output;
 use passkey_memory::OutOfMemory;
 use passkey_run::RunFault;
 use std::alloc::{AllocError, AllocFailed, Global};
@@ -19,6 +20,8 @@ pub enum InspectFault {
     BadBase64,
     /// An argument is none of the program's; status 2.
     BadArguments,
+    /// What was to be printed can only be printed of bytes, and the input is JSON; status 2.
+    BytesOnly(Output),
     /// A name that should be a kind's isn't; the text says so; status 2.
     NoKind(String),
     /// There is no file of the name, and it is no kind's; the text says so; status 4.
@@ -62,7 +65,7 @@ impl InspectFault {
             InspectFault::Run(fault) => fault.status(),
             InspectFault::Refused(_) | InspectFault::RefusedPage(_, _) | InspectFault::BadBase64 =>
                 1,
-            InspectFault::BadArguments | InspectFault::NoKind(_) => 2,
+            InspectFault::BadArguments | InspectFault::BytesOnly(_) | InspectFault::NoKind(_) => 2,
             InspectFault::NoFile(_) => 4,
         }
     }
@@ -78,6 +81,10 @@ impl fmt::Display for InspectFault {
             | InspectFault::NoFile(text) => f.write_str(text.as_str()),
             InspectFault::BadBase64 => f.write_str("BadBase64"),
             InspectFault::BadArguments => f.write_str("bad arguments; --help lists them"),
+            InspectFault::BytesOnly(output) => {
+                let option = output.option();
+                write!(f, "{option} is for bytes, and the input is JSON")
+            }
         }
     }
 }

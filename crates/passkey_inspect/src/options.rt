@@ -20,6 +20,8 @@ xxd and hexdump -C dump it), base64, base64url, JSON and raw bytes.
   -h, --help    this text
   --version     the version
 
+Of JSON a report is printed, or with --json the record in a line; the others are for bytes.
+
 Without a KIND it is found, and a leading command byte or status byte 00 is taken off. A KIND that
 is named takes all of the bytes. These kinds are found:
 
@@ -67,6 +69,21 @@ pub enum Output {
     Encoding,
     /// A page of HTML.
     Page,
+}
+
+impl Output {
+    /// Returns the option that asks for it; of a report, which none asks for, no text.
+    pub fn option(self) -> &'static str {
+        match self {
+            Output::Report => "",
+            Output::Json => "--json",
+            Output::Diagnosis => "--diag",
+            Output::Bytes => "--diag=bytes",
+            Output::Dump => "--hex",
+            Output::Encoding => "--cbor",
+            Output::Page => "--html",
+        }
+    }
 }
 
 /// The arguments.

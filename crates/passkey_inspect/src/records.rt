@@ -1,6 +1,6 @@
 //! JSON texts, and what is in their byte strings.
-ghost use Rattle.std.specs.Prelude.{IfOk, string_bytes};
-ghost use Rattle.passkey_inspect.specs.Prints.{PrintsRecord, RewritesText};
+ghost use Rattle.std.specs.Prelude.{◌≡◌, ◌++◌, ◌∷◌, [], IfOk, string_bytes};
+ghost use Rattle.passkey_inspect.specs.Prints.{PrintsRecord, RewritesText, visible};
 
 use crate::examine::{Examined, examine};
 use crate::fault::InspectFault;
@@ -166,6 +166,14 @@ fn rewrite(alloc: Global, kind: InspectKind, input: &[u8]) -> Result<String, Run
     }
 }
 
+/// Returns the record that the input is decoded to as a line of JSON, of which a terminal takes nothing
+/// as a command.
+fn visible_record(alloc: Global, text: &str) -> Result<String, RunFault>
+    ensures { IfOk result (λ line. string_bytes line ≡ visible text.now ++ 10 ∷ []) }
+{
+    with_line_feed(escape_controls(alloc, text)?)
+}
+
 fn print_as(
     alloc: Global,
     output: Output,
@@ -181,7 +189,8 @@ fn print_as(
     };
     match output {
         Output::Report => report(alloc, kind, names, input),
-        _ => Ok(with_line_feed(text)?),
+        Output::Json => Ok(visible_record(alloc, text.as_str())?),
+        _ => Err(InspectFault::BytesOnly(output)),
     }
 }
 
