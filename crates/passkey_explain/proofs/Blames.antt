@@ -1,5 +1,5 @@
 -- What lists, maps and records blame, step by step.
-use Rattle.passkey_kinds.proofs.Common.{item_of-Array, elements-items_of, Item, Members, Naming, row, names, find, Entry, row_or_unknown, bytes_from, are_small, entry_of, item_of, array, unwrap_or, elements_in, members_in, ◌≡◌, ◌∙◌, ◌<◌, ◌+◌, ◌==◌, ℕ, suc, arith, add-one, Bool, true, false, List, [], ◌∷◌, ◌++◌, length, map, drop, get_or, set, replicate, first_missing, get_or-set_same, get_or-set_other, Option, Some, None, is_some, option_map, refl, sym, ap, subst, if◌then◌else◌, Result, Ok, Err, option_and_then}
+use Rattle.passkey_kinds.proofs.Common.{item_of-Array, elements-items_of, Item, Members, Naming, row, names, find, Entry, row_or_unknown, bytes_from, entry_of, item_of, array, unwrap_or, elements_in, members_in, ◌≡◌, ◌∙◌, ◌<◌, ◌+◌, ◌==◌, ℕ, suc, arith, add-one, Bool, true, false, List, [], ◌∷◌, ◌++◌, length, map, drop, get_or, set, replicate, first_missing, get_or-set_same, get_or-set_other, Option, Some, None, is_some, option_map, refl, sym, ap, subst, if◌then◌else◌, Result, Ok, Err, option_and_then}
 use Rattle.std.proofs.Common.{Bor, IfOk, append_assoc, append-nil}
 use Rattle.std.proofs.lemmas.List.{map-append}
 use Rattle.std.proofs.lemmas.Bool.Decides.{nat_tests}
@@ -10,7 +10,8 @@ use Rattle.passkey_explain.specs.declared.blame.Reason.{Reason}
 use Rattle.passkey_explain.specs.declared.blame.Step.{Step as CodeStep}
 use Rattle.passkey_explain.specs.declared.descent.Next.{Next}
 use Rattle.passkey_cbor.specs.declared.value.Value.{Value}
-use Rattle.passkey_kinds.proofs.Members.{none_marked, row_small}
+use Rattle.passkey_kinds.proofs.Members.{none_marked}
+use Rattle.passkey_kinds.specs.Record.{unmarked}
 use Rattle.passkey_kinds.specs.Look.{Looks, LooksAs, HasForm}
 use Rattle.passkey_kinds.specs.Shape.{Shape, leaf, record_of, Rows, no_rows, Tested, reached, part_of, row_in, entries_in}
 use Rattle.passkey_kinds.specs.declared.look.Look.{Look}
@@ -217,9 +218,6 @@ module _ {way : List ℕ} {root : Tested} {rs : Rows} {is_numbered : Bool} {es :
   row_there = named_there is_numbered rs n label
       (subst (λ (x : List Entry). names is_numbered x label ≡ row n) h.same naming)
 
-  pub row_below : n < 32
-  row_below = row_small is_numbered label n es h.small naming
-
   pub row_reached : (inner : List ℕ) → inner ≡ way ++ n ∷ []
       → (u : Tested) × ((row_in rs n ≡ Some u) × (reached inner root ≡ Some u))
   row_reached inner is =
@@ -248,7 +246,7 @@ module _ (es : List Entry) (accept : ℕ → Item → Bool) (of : ℕ → Item �
       → b ≡ blame_from es accept of is_numbered n all seen
   pair_blamed m ms all seen b at e = rw (at, sym e) refl
 
-  pub pairs_begin : (ms rest : Members) (marks : List Bool) → rest ≡ ms → marks ≡ replicate 32 false
+  pub pairs_begin : (ms rest : Members) (marks : List Bool) → rest ≡ ms → marks ≡ unmarked
       → blame_from es accept of is_numbered n ms (λ k. false)
       ≡ blame_from es accept of is_numbered n rest (λ k. get_or marks k false)
   pairs_begin ms rest marks whole none =
@@ -270,13 +268,8 @@ module _ (es : List Entry) (accept : ℕ → Item → Bool) (of : ℕ → Item �
 
 -- the form that was seen is the shape's
 pub is_record : (s : Shape) (b : Bool) (rs : Bor (List Row)) → HasForm s (form.Record b rs) → (rows : Rows)
-    × (bare s ≡ record_of b rows) × (map entry_of rs.now ≡ entries_in rows) × (are_small (map entry_of rs.now) ≡ true)
-is_record (record_of c rows) b rs h = (
-  rows,
-  ap (λ (x : Bool). record_of x rows) (sym h.0),
-  h.1,
-  subst (λ (es : List Entry). are_small es ≡ true) (sym h.1) h.2,
-)
+    × (bare s ≡ record_of b rows) × (map entry_of rs.now ≡ entries_in rows)
+is_record (record_of c rows) b rs h = (rows, ap (λ (x : Bool). record_of x rows) (sym h.0), h.1)
 is_record (leaf w) b rs h = absurd h
 is_record (shape.list a x) b rs h = absurd h
 is_record (shape.map a x) b rs h = absurd h
@@ -309,7 +302,7 @@ record_next t b rs i ms way root (Err e) at is h told into = tt
 record_next t b rs i ms way root (Ok n) at is h told into =
     let l = is_record t.shape b rs h in
     let there : IsRecordAt way root l.0 b (map entry_of rs.now) =
-    record { at = t; reaches = at; parts = parts_like t.shape l.1; same = l.2; small = l.3 } in
+    record { at = t; reaches = at; parts = parts_like t.shape l.1; same = l.2 } in
     let same = blamed_like t.shape l.1 i ∙ record_of_members b l.0 (map entry_of rs.now) i ms l.2 is in
     into_row t l.0 i n (parts_like t.shape l.1) (into l.0 there) (told l.0 there (blamed_row l.0) ∙ sym same)
 

@@ -183,7 +183,7 @@ unfolding describe_record
 record_described t b rs i ms v way root at is h told =
     let l = is_record t.shape b rs h in
     let there : IsRecordAt way root l.0 b (map entry_of rs.now) =
-    record { at = t; reaches = at; parts = parts_like t.shape l.1; same = l.2; small = l.3 } in
+    record { at = t; reaches = at; parts = parts_like t.shape l.1; same = l.2 } in
     let parts_are : List Entry → Members → List Part =
     λ es ns. map (λ m. describe_member es (described_row l.0) (names b es m.0) m.0 m.1) ns in
     let same = told l.0 there ∙ ap (λ (es : List Entry). parts_are es ms) l.2

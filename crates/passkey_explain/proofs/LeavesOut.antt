@@ -205,7 +205,7 @@ module _ (root t : Tested) (way : List ℕ) (at : reached way root ≡ Some t) w
       let l = is_record t.shape b rs h in
       let es = map entry_of rs.now in
       let there : IsRecordAt way root l.0 b es =
-      record { at = t; reaches = at; parts = parts_like t.shape l.1; same = l.2; small = l.3 } in
+      record { at = t; reaches = at; parts = parts_like t.shape l.1; same = l.2 } in
       record {
         of = dropped_row l.0;
         leaves = λ n label. row_leaves b es l.0 there n label (names b es label) refl;

@@ -3,7 +3,6 @@ use Rattle.std.specs.Prelude.{◌≡◌, ℕ, Bool, true, List, [], Some, is_som
 use Rattle.passkey_explain.specs.Blame.{Blame, under, key, step_of}
 use Rattle.passkey_explain.specs.Blaming.{blamed}
 use Rattle.passkey_explain.specs.declared.descent.Next.{Next}
-use Rattle.passkey_kinds.specs.Record.{are_small}
 use Rattle.passkey_kinds.specs.Shape.{Entry, Rows, Tested, entries_in, row_in, part_of, reached}
 use Rattle.passkey_kinds.specs.Words.{Item, item_of}
 use Rattle.passkey_explain.specs.declared.descent.Next.TheVariants as next
@@ -26,7 +25,6 @@ pub record IsRecordAt (way : List ℕ) (root : Tested) (rows : Rows) (is_numbere
     pub reaches : reached way root ≡ Some at
     pub parts : (n : ℕ) → part_of n at.shape ≡ row_in rows n
     pub same : es ≡ entries_in rows
-    pub small : are_small es ≡ true
 
 -- What the shape blames for the item is there.
 abbrev pub NextIs : Tested → Item → Next → Type 0

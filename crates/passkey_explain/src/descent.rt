@@ -114,7 +114,7 @@ fn next_member<'a, M: FromCbor>(
     alloc: Global,
     way: &[u8],
     table: &Table,
-    seen: &mut [bool; 32],
+    seen: &mut [bool; 256],
     index: usize,
     key: &Value,
     value: &'a Value,

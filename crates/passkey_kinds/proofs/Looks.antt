@@ -1,5 +1,5 @@
 -- Looking at a type.
-use Rattle.passkey_kinds.proofs.Common.{Item, Kind, AnswersAs, Entry, Fault, Reads, read_item, record_kind, as_nested, Row, Puts, Refusal, Fields, Member, rows_of, accepts_at, table_of, entries, are_small, entry_of, ◌≡◌, ◌∙◌, ◌==◌, ℕ, Bool, true, false, List, [], ◌∷◌, length, map, Option, Some, None, is_some, Result, Ok, Err, if◌then◌else◌, refl, sym, ap, subst}
+use Rattle.passkey_kinds.proofs.Common.{Item, Kind, AnswersAs, Entry, Fault, Reads, read_item, record_kind, as_nested, Row, Puts, Refusal, Fields, Member, rows_of, accepts_at, table_of, entries, entry_of, ◌≡◌, ◌∙◌, ◌==◌, ℕ, Bool, true, false, List, [], ◌∷◌, length, map, Option, Some, None, is_some, Result, Ok, Err, if◌then◌else◌, refl, sym, ap, subst}
 use Rattle.std.proofs.Common.{Bor, IfOk}
 use Rattle.std.specs.Prelude.{IfSome}
 use Rattle.std.specs.Option.{option_and_then}
@@ -48,22 +48,18 @@ same_entries (m ∷ ms) = ap (λ (es : List Entry). m.entry ∷ es) (same_entrie
 pub record_looks : {A P : Type 0} (t : Fields P) (view : A → P) (takes : Type 0) (way : List ℕ) (i : Item)
     (read : Result A Fault) (held : Result A Refusal) (b : Bool) (rs : Bor (List Row)) (result : Result Look NoMemory)
     → length way ≡ 0 → Reads view takes (read_item t i) read → held ≡ as_nested read → b ≡ t.is_numbered
-    → map entry_of rs.now ≡ entries (table_of t) → are_small (entries (table_of t)) ≡ true
+    → map entry_of rs.now ≡ entries (table_of t)
     → IfOk result (λ l. AcceptedIf held l.is_accepted × (l.form ≡ form.Record b rs) × (l.is_kept ≡ true))
     → Looks (reached way (tested (nested t))) i result
-record_looks {A} t view takes [] i read held b rs (Ok l) empty reads is numbered rows small a = record {
+record_looks {A} t view takes [] i read held b rs (Ok l) empty reads is numbered rows a = record {
   accepted = accepted_as view (record_kind t i) takes held l.is_accepted
       (subst (λ (r : Result A Refusal). AnswersAs view (record_kind t i) takes r) (sym is)
       (held_answers t view (read_item t i) read (λ h. h) reads)) a.0;
-  form = subst (λ (f : Form). HasForm (shape_of t) f) (sym a.1) (
-    numbered,
-    rows ∙ same_entries t.rows,
-    subst (λ (es : List Entry). are_small es ≡ true) (same_entries t.rows) small,
-  );
+  form = subst (λ (f : Form). HasForm (shape_of t) f) (sym a.1) (numbered, rows ∙ same_entries t.rows);
   kept = a.2;
 }
-record_looks t view takes [] i read held b rs (Err e) empty reads is numbered rows small a = tt
-record_looks t view takes (n ∷ ns) i read held b rs result empty reads is numbered rows small a = absurd cc
+record_looks t view takes [] i read held b rs (Err e) empty reads is numbered rows a = tt
+record_looks t view takes (n ∷ ns) i read held b rs result empty reads is numbered rows a = absurd cc
 
 -- the row as a whole
 whole_row : {P : Type 0} (ms : List (Member P)) (n : ℕ) (i : Item) (l : Look)

@@ -1,9 +1,10 @@
 -- A record's members, decoded one after the other.
 use Rattle.passkey_cbor.specs.Item.{pairs_of}
 use Rattle.passkey_kinds.proofs.Lists.{mapped_at}
-use Rattle.passkey_kinds.proofs.Common.{item_of-Map, pairs_of-members, Item, members-pairs_of, AnswersAs, Typed, members_in, MayGrowIn, are_small, Reads, MayGrowBy, takes_at, Fields, set_with, rows_of, table_of, put_at, one_more, Progress, progress_of, result_and_then, read_from, read_members, read_item, Entry, Table, entries, named, Members, Naming, row, accepts_at, row_or_unknown, names, HasReadTo, Sets, Puts, as_nested, Fault, Refusal, ◌≡◌, ◌∙◌, ◌<◌, ℕ, arith, Bool, true, false, List, [], ◌∷◌, length, map, replicate, get_or, Some, None, is_some, inl, inr, sym, ap, Result, subst, Ok, Err, OnOk, ◌==◌, set, ◌||◌, and_parts, leb-true, cases_lt, get_or-set_same, get_or-set_other, get_or-replicate, get_or_past, length-replicate, find, result_ok}
+use Rattle.passkey_kinds.proofs.Common.{item_of-Map, pairs_of-members, Item, members-pairs_of, AnswersAs, Typed, members_in, MayGrowIn, Reads, MayGrowBy, takes_at, Fields, set_with, rows_of, table_of, put_at, one_more, Progress, progress_of, result_and_then, read_from, read_members, read_item, Entry, Table, entries, named, Members, Naming, row, accepts_at, row_or_unknown, names, HasReadTo, Sets, Puts, as_nested, Fault, Refusal, ◌≡◌, ◌∙◌, ◌<◌, ℕ, arith, Bool, true, false, List, [], ◌∷◌, length, map, replicate, get_or, Some, None, is_some, inl, inr, sym, ap, Result, subst, Ok, Err, OnOk, ◌==◌, set, ◌||◌, and_parts, leb-true, cases_lt, get_or-set_same, get_or-set_other, get_or-replicate, get_or_past, length-replicate, find, result_ok}
 use Rattle.passkey_kinds.specs.declared.fault.Fault.TheVariants.{Refused}
 use Rattle.passkey_kinds.specs.declared.fault.Fault.TheVariants as fault
+use Rattle.passkey_kinds.specs.Record.{unmarked}
 use Rattle.passkey_cbor.specs.Item as item
 use Rattle.passkey_kinds.specs.declared.fault.Refusal.TheVariants as refusal
 
@@ -15,10 +16,11 @@ key_names table key p q e = sym (e ∙ λ i. names (p i) (q i) key)
 
 -- ---- one more member
 
-pub none_marked : (n : ℕ) → get_or (replicate 32 false) n false ≡ false
-none_marked n = elim (cases_lt n 32) [
-  | inl less ↦ get_or-replicate 32 n false false less
-  | inr past ↦ get_or_past (replicate 32 false) n false (omega (arith, past, length-replicate 32 false))
+pub none_marked : (n : ℕ) → get_or unmarked n false ≡ false
+unfolding unmarked
+none_marked n = elim (cases_lt n 256) [
+  | inl less ↦ get_or-replicate 256 n false false less
+  | inr past ↦ get_or_past (replicate 256 false) n false (omega (arith, past, length-replicate 256 false))
 ]
 
 module _ {P : Type 0} (t : Fields P) (held : P) (marks : List Bool) (n : ℕ) (i : Item) where
@@ -30,17 +32,6 @@ module _ {P : Type 0} (t : Fields P) (held : P) (marks : List Bool) (n : ℕ) (i
         also : (k : ℕ) → (k == n) || get_or marks k false ≡ get_or more k false
         also k = rw marked (grind (arith, get_or-set_same, get_or-set_other))
 
--- ---- the numbers of rows
-
-found_small : (p : Entry → Bool) (n : ℕ) (es : List Entry) → are_small es ≡ true
-    → row_or_unknown (find p es) ≡ row n → n < 32
-found_small p n [] small e = cc
-found_small p n (x ∷ es) small e = grind (arith, and_parts, leb-true, found_small p n es)
-
-pub row_small : (is_numbered : Bool) (key : Item) (n : ℕ) (es : List Entry) → are_small es ≡ true
-    → names is_numbered es key ≡ row n → n < 32
-row_small b key n es small e = grind (arith, found_small)
-
 -- ---- members that are decoded one after the other
 
 pub reads_from : {A P : Type 0} {takes may : Type 0} (view : A → P) (wanted other : Result P Fault)
@@ -48,7 +39,7 @@ pub reads_from : {A P : Type 0} {takes may : Type 0} (view : A → P) (wanted ot
 reads_from view wanted other r same grows h = grind arith
 
 module _ {P : Type 0} (t : Fields P) where
-  pub has_begun : (ms : Members) (held : P) (marks : List Bool) → held ≡ t.blank → marks ≡ replicate 32 false
+  pub has_begun : (ms : Members) (held : P) (marks : List Bool) → held ≡ t.blank → marks ≡ unmarked
       → HasReadTo t ms ms held marks
   has_begun ms held marks empty none = record {
     same = λ j. read_from t ms (record {
@@ -110,7 +101,7 @@ sets_put {M = M} t view kind set n k i field old new result same accepts puts ma
 
 -- ---- what the prover needs for one more member, and for the members of a map
 
-pub ruleset reads_one = (was_put, row_small, puts_refused)
+pub ruleset reads_one = (was_put, puts_refused)
 
 pub ruleset reads_pairs = (key_names, mapped_at, has_begun, fails)
 

@@ -11,6 +11,7 @@ pub mod Tree
 pub mod Placed
 pub mod Lending
 pub mod LentItem
+pub mod Wanted
 pub mod Written
 pub mod Coded
 pub mod Numbered

@@ -4,7 +4,6 @@ use Rattle.std.specs.Option.{option_and_then}
 use Rattle.std.proofs.Common.{subst, sym}
 use Rattle.passkey_kinds.specs.Base.{Item}
 use Rattle.passkey_kinds.specs.Kind.{Typed, accepts}
-use Rattle.passkey_kinds.specs.Record.{are_small}
 use Rattle.passkey_kinds.specs.RecordReading.{entry_of}
 use Rattle.passkey_kinds.specs.Shape.{Shape, leaf, list, record_of, Tested, entries_in, reached, part_of, kept_by}
 use Rattle.passkey_kinds.specs.declared.fault.Refusal.{Refusal}
@@ -24,7 +23,7 @@ HasForm (leaf w) (form.Leaf v) = v ≡ w
 HasForm (list a s) form.List = Unit {0}
 HasForm (shape.map a s) form.Map = Unit {0}
 HasForm (record_of is_numbered rows) (form.Record b rs) =
-    (b ≡ is_numbered) × (map entry_of rs.now ≡ entries_in rows) × (are_small (entries_in rows) ≡ true)
+    (b ≡ is_numbered) × (map entry_of rs.now ≡ entries_in rows)
 HasForm (shape.tolerant a s) f = HasForm s f
 HasForm _ _ = ⊥
 

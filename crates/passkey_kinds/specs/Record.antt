@@ -1,6 +1,6 @@
 -- Records as tables of members, and what a data item decodes to by such a table.
 use Rattle.passkey_kinds.specs.Base.{Item, number, text_string, byte_string, members}
-use Rattle.std.specs.Prelude.{ℕ, ◌==◌, Bool, true, false, ◌&&◌, ◌||◌, if◌then◌else◌, List, [], ◌∷◌, map, Option, Some, None, is_some, option_map, Result, Ok, Err, ◌≡◌, nat_lt, ◌⊎◌, get_or, not}
+use Rattle.std.specs.Prelude.{ℕ, ◌==◌, Bool, true, false, ◌&&◌, ◌||◌, if◌then◌else◌, List, [], ◌∷◌, map, Option, Some, None, is_some, option_map, Result, Ok, Err, ◌≡◌, nat_lt, ◌⊎◌, get_or, not, replicate}
 use Rattle.passkey_kinds.specs.Kind.{number_from, Kind, Typed, MayGrow}
 use Rattle.passkey_kinds.specs.declared.fault.Fault.{Fault}
 use Rattle.passkey_kinds.specs.declared.fault.Fault.TheVariants.{BadKey, Repeated, Refused, NotAMap, Missing}
@@ -199,10 +199,9 @@ abbrev pub naming_of : Option Named → Naming
 naming_of (Some key) = named_as key
 naming_of None = wrong
 
--- whether each row's number is below 32
-abbrev pub are_small : List Entry → Bool
-are_small [] = true
-are_small (e ∷ es) = nat_lt e.number 32 && are_small es
+-- the marks of 256 rows of which none is marked
+unfoldable pub unmarked : List Bool
+unmarked = replicate 256 false
 
 -- the record so far, and the rows that are marked
 abbrev pub progress_of : {P : Type 0} → P → List Bool → Progress P

@@ -6,13 +6,13 @@ use crate::head::read_scalar;
 use crate::rows::{Named, Row, of_number, with_name};
 use passkey_cbor::{BytesToken, Cursor, Head, TextToken};
 
-/// Returns the names of at most 32 rows, followed by empty names.
+/// Returns the names of at most 64 rows, followed by empty names.
 #[tactic(auto, using(crate::proofs::Keys::one_more_name))]
-fn names_of(rows: &[Row]) -> [&'static str; 32]
-    requires { length rows.now ≤ 32 }
+fn names_of(rows: &[Row]) -> [&'static str; 64]
+    requires { length rows.now ≤ 64 }
     ensures { map (λ n. n.now) (take (length rows.now) result) ≡ map (λ e. e.name) (map entry_of rows.now) }
 {
-    let mut names = [""; 32];
+    let mut names = [""; 64];
     for (i, row) in rows.iter().enumerate() {
         names[i] = row.name();
     }
@@ -36,7 +36,7 @@ fn at_index(rows: &[Row], index: Option<usize>) -> Named
 /// without copying them.
 fn with_text(rows: &[Row], token: &TextToken<'_>, cursor: &mut Cursor<'_>) -> Named
     requires region { IsRegion true token.now }
-    requires few { length rows.now ≤ 32 }
+    requires few { length rows.now ≤ 64 }
     ensures names { (s : List ℕ) → HoldsString true token.now s → named_as result ≡ row_named (map entry_of rows.now) s }
     ensures looks { LooksAtMost token.now cursor.old cursor.new }
 {
@@ -51,7 +51,7 @@ fn with_text(rows: &[Row], token: &TextToken<'_>, cursor: &mut Cursor<'_>) -> Na
 #[tactic(auto, using(crate::proofs::Keys::row_of_name))]
 fn with_text_chunks(rows: &[Row], token: &TextToken<'_>, cursor: &mut Cursor<'_>) -> Named
     requires region { IsRegion true token.now }
-    requires few { length rows.now ≤ 32 }
+    requires few { length rows.now ≤ 64 }
     ensures names { (s : List ℕ) → HoldsString true token.now s → named_as result ≡ row_named (map entry_of rows.now) s }
     ensures looks { LooksAtMost token.now cursor.old cursor.new }
 {
@@ -62,7 +62,7 @@ fn with_text_chunks(rows: &[Row], token: &TextToken<'_>, cursor: &mut Cursor<'_>
 /// Finds the row whose name is this byte string.
 fn with_bytes(rows: &[Row], token: &BytesToken<'_>, cursor: &mut Cursor<'_>) -> Named
     requires region { IsRegion false token.now }
-    requires few { length rows.now ≤ 32 }
+    requires few { length rows.now ≤ 64 }
     ensures names { (s : List ℕ) → HoldsString false token.now s → named_as result ≡ row_named (map entry_of rows.now) s }
     ensures looks { LooksAtMost token.now cursor.old cursor.new }
 {
@@ -77,7 +77,7 @@ fn with_bytes(rows: &[Row], token: &BytesToken<'_>, cursor: &mut Cursor<'_>) -> 
 #[tactic(auto, using(crate::proofs::Keys::row_of_name))]
 fn with_byte_chunks(rows: &[Row], token: &BytesToken<'_>, cursor: &mut Cursor<'_>) -> Named
     requires region { IsRegion false token.now }
-    requires few { length rows.now ≤ 32 }
+    requires few { length rows.now ≤ 64 }
     ensures names { (s : List ℕ) → HoldsString false token.now s → named_as result ≡ row_named (map entry_of rows.now) s }
     ensures looks { LooksAtMost token.now cursor.old cursor.new }
 {
@@ -119,7 +119,7 @@ fn read_number(rows: &[Row], cursor: &mut Cursor<'_>) -> Option<Named>
 /// Decodes the map key at the cursor if it is a text string or a byte string, moves past it and
 /// returns what it names. Returns `None` for any other key; then the cursor doesn't move.
 fn read_name(rows: &[Row], cursor: &mut Cursor<'_>) -> Option<Named>
-    requires { length rows.now ≤ 32 }
+    requires { length rows.now ≤ 64 }
     ensures finds { (is_numbered : Bool) (key : Item) (to : ℕ) → IsEncodedAt key cursor.old.bytes cursor.old.place to
         → FindsRow (names is_numbered (map entry_of rows.now) key) 2 to cursor.old cursor.new result }
     ensures other { (is_numbered : Bool) (key : Item) (to : ℕ) → IsEncodedAt key cursor.old.bytes cursor.old.place to
@@ -143,7 +143,7 @@ fn read_name(rows: &[Row], cursor: &mut Cursor<'_>) -> Option<Named>
 /// Decodes the map key at the cursor, moves past it and returns what it names in a table with
 /// numbers. Returns `None` if a record can't have this key.
 fn read_numbered(rows: &[Row], cursor: &mut Cursor<'_>) -> Option<Named>
-    requires { length rows.now ≤ 32 }
+    requires { length rows.now ≤ 64 }
     ensures names { (key : Item) (to : ℕ) → IsEncodedAt key cursor.old.bytes cursor.old.place to
         → ReadsKey (names true (map entry_of rows.now) key) to cursor.old cursor.new result }
     ensures onward { Onward cursor.old cursor.new }
@@ -157,7 +157,7 @@ fn read_numbered(rows: &[Row], cursor: &mut Cursor<'_>) -> Option<Named>
 
 /// Does the same for a table without numbers, where a number names nothing.
 fn read_named(rows: &[Row], cursor: &mut Cursor<'_>) -> Option<Named>
-    requires { length rows.now ≤ 32 }
+    requires { length rows.now ≤ 64 }
     ensures names { (key : Item) (to : ℕ) → IsEncodedAt key cursor.old.bytes cursor.old.place to
         → ReadsKey (names false (map entry_of rows.now) key) to cursor.old cursor.new result }
     ensures onward { Onward cursor.old cursor.new }
@@ -172,7 +172,7 @@ fn read_named(rows: &[Row], cursor: &mut Cursor<'_>) -> Option<Named>
 /// Decodes the map key at the cursor, moves past it and returns what it names. Returns `None` if a
 /// record can't have this key.
 pub(crate) fn read_key(is_numbered: bool, rows: &[Row], cursor: &mut Cursor<'_>) -> Option<Named>
-    requires { length rows.now ≤ 32 }
+    requires { length rows.now ≤ 64 }
     ensures names { (key : Item) (to : ℕ) → IsEncodedAt key cursor.old.bytes cursor.old.place to
         → ReadsKey (names is_numbered (map entry_of rows.now) key) to cursor.old cursor.new result }
     ensures onward { Onward cursor.old cursor.new }

@@ -1,6 +1,6 @@
 //! Records whose members have names alone, and which keep no data item.
 ghost use Rattle.std.specs.Prelude.{◌≡◌, ◌≤◌, ℕ, true, false, length, map, is_ok, OnOk};
-ghost use Rattle.passkey_kinds.specs.Words.{Item, PlainTable, EachFits, fields_of, places_of, plain_tree, KeysAscend, IsReadBack, are_small, table_of, cost_at, keeps_at, shape_at, Puts, entry_of, AllAccepted, put_all, entries, plain_kind};
+ghost use Rattle.passkey_kinds.specs.Words.{Item, PlainTable, EachFits, fields_of, places_of, plain_tree, KeysAscend, IsReadBack, table_of, cost_at, keeps_at, shape_at, Puts, entry_of, AllAccepted, put_all, entries, plain_kind};
 
 use crate::{OutOfMemory, Refusal, Row, Sink, Source, TableRecord};
 use std::alloc::Global;
@@ -15,11 +15,10 @@ pub trait PlainRecord: Drop {
     /// The record that the encoding of a record decodes to.
     ghost normal: { Self → Self } = { λ r. r };
 
-    /// Returns the table's rows, at most 32.
+    /// Returns the table's rows, at most 64.
     fn rows() -> &'static [Row]
         ensures rows { map entry_of result.now ≡ entries (table_of (fields_of table)) }
-        ensures few { length result.now ≤ 32 }
-        ensures small { are_small (entries (table_of (fields_of table))) ≡ true };
+        ensures few { length result.now ≤ 64 };
 
     /// Returns the record before a member is decoded. Allocates nothing.
     fn blank(alloc: Global) -> Self

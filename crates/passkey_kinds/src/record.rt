@@ -1,7 +1,7 @@
 //! Records, decoded member by member.
-ghost use Rattle.std.specs.Prelude.{◌≡◌, ◌<◌, ◌≤◌, ℕ, Bool, true, false, length, map, replicate, get_or, is_ok, OnOk, set, [], None};
-ghost use Rattle.passkey_kinds.specs.Words.{CountsHeads, Item, max_depth, IsEncodedAt, PairsAreEncodedAt, item_of, pair_of, Onward, Further, MayGrowIn, MayGrowAt, Reads, are_small, named_as, Fields, table_of, read_members, read_item, nested, cost_at, keeps_at, shape_at, Puts, entry_of, Members, entries, named, MayGrowBy, one_more, progress_of, read_from, cost_by, keeps_by, DecodesMember, DecodesMembers, DecodesRecord, as_nested};
-ghost use Rattle.passkey_kinds.specs.Record.{first_missing as missing_of};
+ghost use Rattle.std.specs.Prelude.{◌≡◌, ◌≤◌, ℕ, Bool, true, false, length, map, get_or, is_ok, OnOk, set, [], None};
+ghost use Rattle.passkey_kinds.specs.Words.{CountsHeads, Item, max_depth, IsEncodedAt, PairsAreEncodedAt, item_of, pair_of, Onward, Further, MayGrowIn, MayGrowAt, Reads, named_as, Fields, table_of, read_members, read_item, nested, cost_at, keeps_at, shape_at, Puts, entry_of, Members, entries, named, MayGrowBy, one_more, progress_of, read_from, cost_by, keeps_by, DecodesMember, DecodesMembers, DecodesRecord, as_nested};
+ghost use Rattle.passkey_kinds.specs.Record.{first_missing as missing_of, unmarked};
 ghost use Rattle.passkey_cbor.specs.EncodedAt.{Lies};
 ghost use Rattle.passkey_cbor.specs.Inside.{PairWithin};
 
@@ -34,11 +34,10 @@ pub trait Record: Drop {
     fn is_numbered() -> bool
         ensures { result ≡ fields.is_numbered };
 
-    /// Returns the table's rows, at most 32.
+    /// Returns the table's rows, at most 64.
     fn rows() -> &'static [Row]
         ensures rows { map entry_of result.now ≡ entries (table_of fields) }
-        ensures few { length result.now ≤ 32 }
-        ensures small { are_small (entries (table_of fields)) ≡ true };
+        ensures few { length result.now ≤ 64 };
 
     /// Returns the record before a member is decoded. Allocates nothing.
     fn blank(alloc: Global) -> Self
@@ -60,11 +59,10 @@ pub trait Record: Drop {
 fn read_member<R: Record, S: Source>(
     alloc: Global,
     read: &mut R,
-    seen: &mut [bool; 32],
+    seen: &mut [bool; 256],
     key: Named,
     source: &mut S,
 ) -> Result<(), Fault>
-    requires { are_small (entries (table_of R.fields)) ≡ true }
     ensures reads { (label value : Item) (to : ℕ) → named (table_of R.fields) label ≡ named_as key
         → S.At source.old value to → Reads (λ _. progress_of (R.parts read.new) seen.new)
         (MayGrowBy (table_of R.fields) (named_as key) value)
@@ -98,25 +96,21 @@ fn read_member<R: Record, S: Source>(
 }
 
 /// Returns whether the row with this number is marked.
-pub fn is_marked(seen: &[bool; 32], number: u8) -> bool
+pub fn is_marked(seen: &[bool; 256], number: u8) -> bool
     ensures { result ≡ get_or seen.now number false }
 {
-    let index = usize::from(number);
-    index < seen.len() && seen[index]
+    seen[usize::from(number)]
 }
 
-/// Marks the row with this number. A row's number is below 32.
-pub fn mark(seen: &mut [bool; 32], number: u8)
-    ensures { number < 32 → seen.new ≡ set seen.old number true }
+/// Marks the row with this number.
+pub fn mark(seen: &mut [bool; 256], number: u8)
+    ensures { seen.new ≡ set seen.old number true }
 {
-    let index = usize::from(number);
-    if index < seen.len() {
-        seen[index] = true;
-    }
+    seen[usize::from(number)] = true;
 }
 
 /// Returns the number of the first required row that isn't marked.
-pub fn first_missing(rows: &[Row], seen: &[bool; 32]) -> Option<u8>
+pub fn first_missing(rows: &[Row], seen: &[bool; 256]) -> Option<u8>
     ensures { result ≡ missing_of (map entry_of rows.now) (λ n. get_or seen.now n false) }
 {
     for row in rows {
@@ -128,14 +122,15 @@ pub fn first_missing(rows: &[Row], seen: &[bool; 32]) -> Option<u8>
 }
 
 /// Returns marks with no row marked.
-pub fn no_marks() -> [bool; 32]
-    ensures { result ≡ replicate 32 false }
+#[tactic(auto, unfolding(crate::specs::Record::unmarked))]
+pub fn no_marks() -> [bool; 256]
+    ensures { result ≡ unmarked }
 {
-    [false; 32]
+    [false; 256]
 }
 
 /// Returns the record, or `Missing` for the first required row that isn't marked.
-fn finish<R: Record>(read: R, seen: &[bool; 32]) -> Result<R, Fault>
+fn finish<R: Record>(read: R, seen: &[bool; 256]) -> Result<R, Fault>
     ensures { Reads R.parts ⊥ (read_from R.fields [] (progress_of (R.parts read) seen.now)) result }
 {
     match first_missing(R::rows(), seen) {
@@ -182,7 +177,7 @@ pub fn record_from_value<R: Record>(alloc: Global, value: &Value) -> Result<R, F
 fn read_next<R: Record>(
     alloc: Global,
     read: &mut R,
-    seen: &mut [bool; 32],
+    seen: &mut [bool; 256],
     cursor: &mut Cursor<'_>,
 ) -> Result<(), Fault>
     ensures reads { (m : Item × Item) (to : ℕ)

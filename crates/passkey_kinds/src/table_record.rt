@@ -1,6 +1,6 @@
 //! Records that one table defines.
 ghost use Rattle.std.specs.Prelude.{◌≡◌, ◌≤◌, ℕ, Bool, true, length, map, is_ok, OnOk, Option, None};
-ghost use Rattle.passkey_kinds.specs.Words.{Item, PlainTable, EachFits, places_of, plain_tree, KeysAscend, IsReadBack, are_small, table_of, cost_at, keeps_at, shape_at, Puts, entry_of, AllAccepted, put_all, entries, record_kind};
+ghost use Rattle.passkey_kinds.specs.Words.{Item, PlainTable, EachFits, places_of, plain_tree, KeysAscend, IsReadBack, table_of, cost_at, keeps_at, shape_at, Puts, entry_of, AllAccepted, put_all, entries, record_kind};
 ghost use Rattle.passkey_kinds.specs.Numbered.{table_fields, is_shallow};
 
 use crate::{OutOfMemory, Record, RecordReadBack, Refusal, Row, Sink, Source, ToCborMap};
@@ -25,11 +25,10 @@ pub trait TableRecord: Drop {
     fn is_numbered() -> bool
         ensures { result ≡ numbered };
 
-    /// Returns the table's rows, at most 32.
+    /// Returns the table's rows, at most 64.
     fn rows() -> &'static [Row]
         ensures rows { map entry_of result.now ≡ entries (table_of (table_fields numbered table)) }
-        ensures few { length result.now ≤ 32 }
-        ensures small { are_small (entries (table_of (table_fields numbered table))) ≡ true };
+        ensures few { length result.now ≤ 64 };
 
     /// Returns the record before a member is decoded. Allocates nothing.
     fn blank(alloc: Global) -> Self

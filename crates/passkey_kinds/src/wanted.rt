@@ -1,4 +1,6 @@
 //! What a type wants of a data item.
+ghost use Rattle.std.specs.Prelude.{Some};
+ghost use Rattle.passkey_kinds.specs.Wanted.{wanted_text};
 
 use std::fmt;
 
@@ -36,6 +38,8 @@ pub enum Wanted {
 }
 
 impl fmt::Display for Wanted {
+    ghost output = { λ wanted. Some (wanted_text wanted) };
+
     fn fmt<W: fmt::Write>(&self, f: &mut fmt::Formatter<W>) -> fmt::Result {
         match self {
             Wanted::Boolean => f.write_str("true or false"),

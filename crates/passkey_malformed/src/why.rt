@@ -1,4 +1,6 @@
 //! Where and why bytes aren't well-formed.
+ghost use Rattle.std.specs.Prelude.{Some};
+ghost use Rattle.passkey_malformed.specs.Why.{malformed_text, why_text};
 
 use std::fmt;
 
@@ -27,6 +29,8 @@ pub enum Why {
 }
 
 impl fmt::Display for Why {
+    ghost output = { λ why. Some (why_text why) };
+
     fn fmt<W: fmt::Write>(&self, f: &mut fmt::Formatter<W>) -> fmt::Result {
         f.write_str(match self {
             Why::CutOff => "the bytes end before the data item does",
@@ -52,6 +56,8 @@ pub struct Malformed {
 }
 
 impl fmt::Display for Malformed {
+    ghost output = { λ malformed. Some (malformed_text malformed) };
+
     fn fmt<W: fmt::Write>(&self, f: &mut fmt::Formatter<W>) -> fmt::Result {
         write!(f, "{} (offset {})", self.why, self.offset)
     }
