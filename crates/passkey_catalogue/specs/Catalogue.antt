@@ -33,7 +33,7 @@ use Rattle.passkey_kinds.specs.Words.{PlainTable, plain_tree}
 use Rattle.passkey_large_blobs.specs.LargeBlob.{large_blob}
 use Rattle.passkey_large_blobs.specs.LbRequest.{lb_request}
 use Rattle.passkey_large_blobs.specs.LbResponse.{lb_response}
-use Rattle.passkey_rewrite.specs.Kinds.{bytes_definition}
+use Rattle.passkey_run.specs.Kinds.{bytes_definition}
 use Rattle.passkey_run.specs.Definition.{Definition, message, other}
 use Rattle.passkey_run.specs.Kind.{bytes_kinds, json_kinds}
 use Rattle.passkey_run.specs.contracts.kind.BytesKind.{the_type as the_bytes_kind}

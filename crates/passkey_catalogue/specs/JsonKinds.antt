@@ -16,7 +16,7 @@ use Rattle.passkey_options.specs.Options.{creation_options, request_options}
 use Rattle.passkey_catalogue.specs.contracts.json_kind.FurtherJsonKind.{the_type}
 use Rattle.passkey_catalogue.specs.declared.json_kind.FurtherJsonKind.{FurtherJsonKind}
 use Rattle.passkey_catalogue.specs.declared.json_kind.FurtherJsonKind.TheVariants as kind
-use Rattle.passkey_rewrite_json.specs.RewritesJson.{client_data_rewritten, table_rewritten}
+use Rattle.passkey_run.specs.RewritesJson.{client_data_rewritten, table_rewritten}
 use Rattle.passkey_signals.specs.Signals.{all_accepted_credentials, current_user_details, unknown_credential}
 use Rattle.passkey_webauthn.specs.Names.{Names, own_name, value_in}
 use Rattle.serde_json.specs.Data.{Data, object}

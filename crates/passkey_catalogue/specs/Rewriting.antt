@@ -16,7 +16,7 @@ use Rattle.passkey_catalogue.specs.JsonKinds.{further_json_rewritten}
 use Rattle.passkey_catalogue.specs.declared.form.Form.{Form}
 use Rattle.passkey_catalogue.specs.declared.form.Form.TheVariants as form
 use Rattle.passkey_explain_data.specs.DataLength.{IsDataLength}
-use Rattle.passkey_rewrite_json.specs.RewritesJson.{IsJsonRefusal, RewritesJson, json_rewritten}
+use Rattle.passkey_run.specs.RewritesJson.{IsJsonRefusal, RewritesJson, json_rewritten}
 use Rattle.passkey_run.specs.Definition.{Definition, authenticator, item, message, other}
 use Rattle.passkey_run.specs.Rewriting.{IsFrontLength, IsRefusalAs, RefusesLeadingItem, RewritesAs}
 use Rattle.passkey_run.specs.declared.fault.RunFault.{RunFault}

@@ -2,7 +2,7 @@
 ghost use Rattle.std.specs.Prelude.{IfOk, IfErr, string_bytes, ⊤};
 ghost use Rattle.passkey_json.specs.Fault.{Gives};
 ghost use Rattle.passkey_catalogue.specs.JsonKinds.{capabilities_in, capabilities_rewritten, further_json_rewritten};
-ghost use Rattle.passkey_rewrite_json.specs.RewritesJson.{IsJsonRefusal, RewritesJson};
+ghost use Rattle.passkey_run.specs.RewritesJson.{IsJsonRefusal, RewritesJson};
 ghost use Rattle.serde_json.specs.View.{view};
 
 use crate::json_kind::FurtherJsonKind;
@@ -12,8 +12,7 @@ use passkey_further_client::{
 };
 use passkey_json::{BytesForm, FromJson, JsonFault, JsonRefusal, ToJson};
 use passkey_options::{PublicKeyCredentialCreationOptions, PublicKeyCredentialRequestOptions};
-use passkey_rewrite_json::{parse_json, rewrite_client_data, rewrite_record};
-use passkey_run::RunFault;
+use passkey_run::{RunFault, parse_json, rewrite_client_data, rewrite_record};
 use passkey_signals::{
     AllAcceptedCredentialsOptions, CurrentUserDetailsOptions, UnknownCredentialOptions,
 };

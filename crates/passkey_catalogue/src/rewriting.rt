@@ -4,7 +4,7 @@ ghost use Rattle.passkey_catalogue.specs.Catalogue.{definition};
 ghost use Rattle.passkey_catalogue.specs.JsonKinds.{further_json_rewritten};
 ghost use Rattle.passkey_catalogue.specs.Rewriting.{Encodes, EncodesForm, IsFormLength, IsRefusal, RefusesForm};
 ghost use Rattle.passkey_explain_data.specs.DataLength.{IsDataLength};
-ghost use Rattle.passkey_rewrite_json.specs.RewritesJson.{IsJsonRefusal, RewritesJson, json_rewritten};
+ghost use Rattle.passkey_run.specs.RewritesJson.{IsJsonRefusal, RewritesJson, json_rewritten};
 ghost use Rattle.passkey_run.specs.Rewriting.{IsDataRefusal, RewritesData};
 
 use crate::form::Form;
@@ -17,9 +17,9 @@ use crate::structure::{rewrite_cert_info, rewrite_pub_area};
 use crate::visiting::visit;
 use passkey_explain_data::data_len;
 use passkey_kinds::Message;
-use passkey_rewrite_json::rewrite_json;
 use passkey_run::{
     JsonKind, RunFault, Visitor, rewrite_data, rewrite_front_item, rewrite_front_message,
+    rewrite_json,
 };
 use std::alloc::Global;
 

@@ -11,8 +11,7 @@ use passkey_config as config;
 use passkey_credential_management as credentials;
 use passkey_further_extensions::{get_assertion, make_credential};
 use passkey_large_blobs as blobs;
-use passkey_rewrite::visit_bytes;
-use passkey_run::Visitor;
+use passkey_run::{Visitor, visit_bytes};
 
 /// Does it with an input of this kind.
 pub fn visit<V: Visitor<Other = Form>>(kind: Kind, visitor: V) -> V::Output

@@ -12,7 +12,7 @@ use Rattle.passkey_report.specs.Json.{json_text}
 use Rattle.passkey_inspect_input.specs.Input.{bytes_as}
 use Rattle.passkey_inspect_input.specs.declared.Form.{Form}
 use Rattle.passkey_catalogue.specs.JsonKinds.{further_json_rewritten}
-use Rattle.passkey_rewrite_json.specs.RewritesJson.{RewritesJson, json_rewritten}
+use Rattle.passkey_run.specs.RewritesJson.{RewritesJson, json_rewritten}
 use Rattle.passkey_inspect.specs.declared.options.Output.{Output}
 use Rattle.passkey_inspect.specs.declared.options.Output.TheVariants.{Report, Json as JsonText, Diagnosis, Bytes as BytesText, Encoding}
 use Rattle.passkey_catalogue.specs.Catalogue.{definition}

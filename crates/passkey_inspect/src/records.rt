@@ -15,8 +15,7 @@ use passkey_explain_json::{JsonExplanation, explain_client_data, explain_json};
 use passkey_memory::OutOfMemory;
 use passkey_options::{CredentialCreationOptions, CredentialRequestOptions};
 use passkey_report::report_of;
-use passkey_rewrite_json::{parse_json, rewrite_json};
-use passkey_run::{BytesKind, JsonKind, RunFault};
+use passkey_run::{BytesKind, JsonKind, RunFault, parse_json, rewrite_json};
 use serde_json::Value;
 use std::alloc::Global;
 

@@ -6,7 +6,7 @@ use crate::setting::first_word;
 use passkey_relying_party::{
     CredentialRecord, Rejected, creation_options, register, request_options, sign_in,
 };
-use passkey_rewrite::RunFault;
+use passkey_run::RunFault;
 use passkey_types::cbor::Value;
 use passkey_types::cose::{CoseError, CoseKey};
 use passkey_types::ctap2::{Aaguid, AttestedCredentialData, Fault};

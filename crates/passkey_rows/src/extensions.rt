@@ -2,7 +2,7 @@
 use crate::again_bytes::encoded;
 use crate::hexadecimal::{decode, encode};
 use crate::tries::Tries;
-use passkey_rewrite::RunFault;
+use passkey_run::RunFault;
 use passkey_types::cbor::Value;
 use passkey_types::ctap2::further_extensions::{
     TableRecord, extensions_of, get_assertion as used, make_credential as made, others_of,

@@ -1,6 +1,6 @@
 //! Bytes in hexadecimal.
 use hex::FromHexError;
-use passkey_rewrite::RunFault;
+use passkey_run::RunFault;
 use std::alloc::Global;
 
 pub fn decode(alloc: Global, text: &str) -> Result<Vec<u8>, RunFault> {

@@ -1,7 +1,7 @@
 //! What WebAuthn Level 3 has over JSON beyond the records of `passkey_show`.
 use crate::again_json::{client_data_copied, parsed};
 use passkey_catalogue::{FurtherJsonKind, rewrite_further_json};
-use passkey_rewrite::RunFault;
+use passkey_run::RunFault;
 use passkey_types::json::{FromJson, JsonRefusal};
 use passkey_types::webauthn::further::{ClientCapabilities, PaymentData, TopOrigin};
 use passkey_types::webauthn::{BytesForm, EnumNames, ToJson};

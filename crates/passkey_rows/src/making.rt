@@ -2,7 +2,7 @@
 //! memory runs out.
 use crate::hexadecimal::{decode, encode};
 use crate::tries::Tries;
-use passkey_rewrite::RunFault;
+use passkey_run::RunFault;
 use passkey_types::cbor::Value;
 use passkey_types::cose::{CoseError, CoseKey, Label, RefusedKey};
 use passkey_types::encoding::{base64, base64url};

@@ -1,6 +1,6 @@
 //! Diagnostic notation (RFC 8949, section 8), and where bytes aren't well-formed (section 3).
 use crate::hexadecimal::decode;
-use passkey_rewrite::RunFault;
+use passkey_run::RunFault;
 use passkey_types::cbor::Value;
 use passkey_types::ctap2::explain::{Malformed, malformed};
 use passkey_types::diagnose::{

@@ -7,7 +7,7 @@ use crate::heads::{Counts, heads};
 use crate::hexadecimal::{decode, encode};
 use crate::tries::Tries;
 use passkey_catalogue::{FurtherKind, Kind};
-use passkey_rewrite::{BytesKind, RunFault};
+use passkey_run::{BytesKind, RunFault};
 use passkey_types::ctap2::extensions::HmacGetSecretInput;
 use passkey_types::ctap2::further_extensions::{get_assertion as used, make_credential as made};
 use passkey_types::ctap2::{

@@ -4,4 +4,7 @@ pub mod Trimmed
 pub mod Fault
 pub mod Checking
 pub mod Rewriting
+pub mod Kinds
+pub mod RewritesJson
+pub mod Rewrite
 pub mod Streams

@@ -5,7 +5,7 @@ use Rattle.passkey_run.specs.Streams.{AppendsBeginning}
 use Rattle.passkey_run.specs.declared.kind.Kind.{Kind}
 use Rattle.passkey_run.specs.declared.fault.RunFault.{RunFault}
 use Rattle.passkey_run.specs.declared.fault.RunFault.TheVariants.{InputFailed, OutputFailed}
-use Rattle.passkey_rewrite.specs.Rewriting.{Shown, HasNoOutput}
+use Rattle.passkey_run.specs.Rewrite.{Shown, HasNoOutput}
 
 -- The output: what the kind makes of the input, and a line feed.
 pub record IsOutput (kind : Kind) (input output : List ℕ) : Type 0 where

@@ -1,17 +1,15 @@
 //! JSON texts, decoded as a kind and encoded again.
-#![tactic(auto)]
-
 ghost use Rattle.std.specs.Prelude.{◌≡◌, ◌⊎◌, IfOk, IfErr, string_bytes};
 ghost use Rattle.passkey_json.specs.JsonText.{HasNoJson, IsJson};
-ghost use Rattle.passkey_rewrite_json.specs.RewritesJson.{IsJsonRefusal, RewritesJson, client_data_rewritten, json_rewritten, record_rewritten};
+ghost use Rattle.passkey_run.specs.RewritesJson.{IsJsonRefusal, RewritesJson, client_data_rewritten, json_rewritten, record_rewritten};
 ghost use Rattle.passkey_run.specs.declared.fault.RunFault.TheVariants.{BadJson, OutOfMemory};
 ghost use Rattle.serde_json.specs.View.{view};
 
+use crate::{JsonKind, RunFault};
 use passkey_client_data::{ClientDataExtra, CollectedClientData};
 use passkey_credentials::{AuthenticatedPublicKeyCredential, CreatedPublicKeyCredential};
 use passkey_json::{BytesForm, JsonRecord, ToJson};
 use passkey_options::{CredentialCreationOptions, CredentialRequestOptions};
-use passkey_run::{JsonKind, RunFault};
 use serde_json::Value;
 use serde_json::error::Category;
 use std::alloc::Global;

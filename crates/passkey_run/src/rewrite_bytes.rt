@@ -1,14 +1,14 @@
 //! Bytes in hexadecimal, decoded as a kind and encoded again.
 ghost use Rattle.std.specs.Prelude.{◌≡◌, IfOk, IfErr, string_bytes};
-ghost use Rattle.passkey_rewrite.specs.Rewriting.{HasNoHex, IsRefusal, Rewrites, RewritesHex};
+ghost use Rattle.passkey_run.specs.Rewrite.{HasNoHex, IsRefusal, Rewrites, RewritesHex};
 ghost use Rattle.passkey_run.specs.Rewriting.{IsRefusalAs, RewritesAs};
 ghost use Rattle.passkey_run.specs.declared.fault.RunFault.TheVariants.{UnknownKind};
 
 use crate::visiting::visit_bytes;
-use passkey_kinds::Message;
-use passkey_run::{
+use crate::{
     BytesKind, RunFault, Visitor, decode_hex, rewrite_data, rewrite_item, rewrite_message,
 };
+use passkey_kinds::Message;
 use std::alloc::Global;
 
 /// The bytes are decoded and encoded again.

@@ -1,10 +1,9 @@
 //! Inputs of any kind, decoded and encoded again, or checked.
 ghost use Rattle.std.specs.Prelude.{IfOk, IfErr, string_bytes};
-ghost use Rattle.passkey_rewrite.specs.Rewriting.{HasNoOutput, Shown};
+ghost use Rattle.passkey_run.specs.Rewrite.{HasNoOutput, Shown};
 
 use crate::rewrite_bytes::rewrite_hex;
-use passkey_rewrite_json::rewrite_json;
-use passkey_run::{Kind, RunFault, check_hex};
+use crate::{Kind, RunFault, check_hex, rewrite_json};
 use std::alloc::Global;
 
 /// Decodes the input as this kind and encodes the result: bytes as lower-case hexadecimal, JSON as

@@ -1,6 +1,6 @@
 use Rattle.std.proofs.Common.{IfOk, IfErr, sym, subst, string_bytes}
-use Rattle.passkey_rewrite.proofs.rewriting.rewrite.Goals as goal
-use Rattle.passkey_rewrite.specs.Rewriting.{HasNoOutput, Shown}
+use Rattle.passkey_run.proofs.input.rewrite.Goals as goal
+use Rattle.passkey_run.specs.Rewrite.{HasNoOutput, Shown}
 use Rattle.passkey_run.specs.declared.kind.Kind.{Kind}
 
 pub returns-in-Bytes-clause-ok : goal.returns-in-Bytes-clause-ok

@@ -1,8 +1,8 @@
 -- The output of decoding an input as a kind and encoding the result, and why there is none.
 use Rattle.std.specs.Prelude.{◌≡◌, ℕ, List, Ok, IsErr, ⊤}
 use Rattle.hex.specs.Hex.{decode_of, encode_lower}
-use Rattle.passkey_rewrite.specs.Kinds.{bytes_definition}
-use Rattle.passkey_rewrite_json.specs.RewritesJson.{RewritesJson, IsJsonRefusal, json_rewritten}
+use Rattle.passkey_run.specs.Kinds.{bytes_definition}
+use Rattle.passkey_run.specs.RewritesJson.{RewritesJson, IsJsonRefusal, json_rewritten}
 use Rattle.passkey_run.specs.Checking.{IsChecked, HasNoBytes}
 use Rattle.passkey_run.specs.Rewriting.{IsRefusalAs, RewritesAs}
 use Rattle.passkey_run.specs.Trimmed.{trimmed}

@@ -1,7 +1,7 @@
 -- Why an input in hexadecimal has no output, by why its bytes have none.
 use Rattle.std.proofs.Common.{◌≡◌, ℕ, List, Ok}
 use Rattle.hex.specs.Hex.{decode_of}
-use Rattle.passkey_rewrite.specs.Rewriting.{HasNoHex, IsRefusal}
+use Rattle.passkey_run.specs.Rewrite.{HasNoHex, IsRefusal}
 use Rattle.passkey_run.specs.Trimmed.{trimmed}
 use Rattle.passkey_run.specs.declared.fault.RunFault.{RunFault}
 use Rattle.passkey_run.specs.declared.fault.RunFault.TheVariants.{Refused, MessageRefused, OutOfMemory}

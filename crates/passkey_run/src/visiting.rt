@@ -1,8 +1,8 @@
 //! The dispatch over the kinds of bytes that `passkey_show` has.
-ghost use Rattle.passkey_rewrite.specs.Kinds.{bytes_definition};
+ghost use Rattle.passkey_run.specs.Kinds.{bytes_definition};
 
+use crate::{BytesKind, Visitor};
 use passkey_extensions::HmacGetSecretInput;
-use passkey_run::{BytesKind, Visitor};
 
 /// Does it with bytes of this kind.
 pub fn visit_bytes<V: Visitor>(kind: BytesKind, visitor: V) -> V::Output

@@ -1,5 +1,5 @@
-use Rattle.passkey_rewrite.proofs.rewrite_bytes.rewrite_raw.Goals as goal
-use Rattle.passkey_rewrite.specs.Rewriting.{IsRefusal, Rewrites}
+use Rattle.passkey_run.proofs.rewrite_bytes.rewrite_raw.Goals as goal
+use Rattle.passkey_run.specs.Rewrite.{IsRefusal, Rewrites}
 
 pub returns-clause-ok : goal.returns-clause-ok
 unfolding Rewrites
