@@ -1,7 +1,7 @@
 -- Messages of authenticatorCredentialManagement: decoding their encodings again, their nesting levels, and their canonical form.
 use Rattle.passkey_kinds.proofs.Numbered.{code_back, code_place, code_keeps, not_null_back, not_null_around, numbered_law, keeping_law, IsKeeping, IsNumbered, IsNumberedAs}
 use Rattle.passkey_kinds.proofs.Steps.{optional_keeps, arith, shortest_head, truth_back, plainly, puts_value, puts_default, no_more, ◌▸◌, refl, byte_back, word_back, bytes_back, anything, optional_place, descriptor_law, ℕ, suc, ◌≡◌}
-use Rattle.passkey_entities.proofs.Entities.{rp_law, user_law}
+use Rattle.passkey_extensions.proofs.Entities.{rp_law, user_law}
 use Rattle.passkey_credential_management.specs.SubCommand.{sub_command_of, sub_command_byte, named_sub_commands}
 use Rattle.passkey_credential_management.specs.declared.sub_command.SubCommand.TheVariants as sub_command
 use Rattle.passkey_credential_management.specs.CredProtect.{cred_protect_of, cred_protect_byte, named_cred_protects}

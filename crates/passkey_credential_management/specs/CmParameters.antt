@@ -1,7 +1,7 @@
 -- Parameters of subcommands of authenticatorCredentialManagement (CTAP 2.1, section 6.8).
 use Rattle.std.specs.Prelude.{None, [], codes, ◌∷◌}
 use Rattle.passkey_credential_management.specs.declared.parameters.Parameters.{Parameters}
-use Rattle.passkey_entities.specs.Entities.{user}
+use Rattle.passkey_extensions.specs.Entities.{user}
 use Rattle.passkey_kinds.specs.Coded.{bytes}
 use Rattle.passkey_kinds.specs.Words.{PlainTable, optional_at, plain}
 use Rattle.passkey_kinds.specs.Words.{descriptor}

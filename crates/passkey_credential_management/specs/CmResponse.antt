@@ -3,10 +3,10 @@ use Rattle.std.specs.Prelude.{Bool, List, None, Option, [], codes, option_map, â
 use Rattle.passkey_credential_management.specs.CredProtect.{cred_protect_of, cred_protect_byte}
 use Rattle.passkey_credential_management.specs.declared.cred_protect.CredProtect.{CredProtect}
 use Rattle.passkey_credential_management.specs.declared.response.Response.{Response}
-use Rattle.passkey_entities.specs.Entities.{rp}
-use Rattle.passkey_entities.specs.Entities.{user}
-use Rattle.passkey_entities.specs.declared.rp.PublicKeyCredentialRpEntity.{PublicKeyCredentialRpEntity}
-use Rattle.passkey_entities.specs.declared.user.PublicKeyCredentialUserEntity.{PublicKeyCredentialUserEntity}
+use Rattle.passkey_extensions.specs.Entities.{rp}
+use Rattle.passkey_extensions.specs.Entities.{user}
+use Rattle.passkey_extensions.specs.declared.rp.PublicKeyCredentialRpEntity.{PublicKeyCredentialRpEntity}
+use Rattle.passkey_extensions.specs.declared.user.PublicKeyCredentialUserEntity.{PublicKeyCredentialUserEntity}
 use Rattle.passkey_kinds.specs.Coded.{bytes, truth}
 use Rattle.passkey_kinds.specs.Numbered.{code, kept_item}
 use Rattle.passkey_kinds.specs.Words.{Item, PlainTable, optional_at, plain, word}

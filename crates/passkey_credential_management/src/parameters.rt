@@ -3,7 +3,7 @@ ghost use Rattle.std.specs.Prelude.{None};
 ghost use Rattle.passkey_credential_management.specs.CmParameters.{cm_parameters};
 
 use passkey_bytes::Bytes;
-use passkey_entities::PublicKeyCredentialUserEntity;
+use passkey_extensions::PublicKeyCredentialUserEntity;
 use passkey_kinds::{
     Kept, OutOfMemory, Refusal, Row, Sink, Source, TableMessage, TableRecord, set,
 };

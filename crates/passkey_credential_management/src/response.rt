@@ -3,7 +3,7 @@ ghost use Rattle.passkey_credential_management.specs.CmResponse.{cm_response, no
 
 use crate::CredProtect;
 use passkey_bytes::Bytes;
-use passkey_entities::{PublicKeyCredentialRpEntity, PublicKeyCredentialUserEntity};
+use passkey_extensions::{PublicKeyCredentialRpEntity, PublicKeyCredentialUserEntity};
 use passkey_kinds::{
     Kept, OutOfMemory, Refusal, Row, Sink, Source, TableMessage, TableRecord, put_some_code, set,
     set_some_code,

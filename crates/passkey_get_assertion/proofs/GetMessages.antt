@@ -5,7 +5,7 @@ use Rattle.passkey_kinds.proofs.Steps.{Around, OnlyAt, KeysAscend, keys_ascend, 
 use Rattle.passkey_kinds.proofs.Taken.{auth_data_lent}
 use Rattle.passkey_kinds.specs.Lending.{AuthDataAreLent}
 use Rattle.std.proofs.Common.{leb-true}
-use Rattle.passkey_entities.proofs.Entities.{user_law}
+use Rattle.passkey_extensions.proofs.Entities.{user_law}
 use Rattle.passkey_extensions.proofs.Extensions.{get_parts_back, get_extensions_around, get_assertion_unsigned_law}
 use Rattle.passkey_extensions.specs.GetExtensions.{get_extensions_tree}
 use Rattle.passkey_get_assertion.specs.GetRequest.{options, GetRequestParts, get_request_members, get_request_fields, read_get_request, get_request_tree, GetRequestFits, is_get_request_coherent, get_request_kept}

@@ -9,7 +9,7 @@ ghost use Rattle.passkey_kinds.specs.declared.fault.WriteFault.TheVariants.{OutO
 use passkey_bytes::Bytes;
 use passkey_cbor::{BytesToken, Cursor, Value};
 use passkey_core::AuthenticatorData;
-use passkey_entities::PublicKeyCredentialUserEntity;
+use passkey_extensions::PublicKeyCredentialUserEntity;
 use passkey_extensions::get_assertion::UnsignedExtensionOutputs;
 use passkey_kinds::{
     Fault, Message, Record, Refusal, Row, Sink, Source, ToCborMap, WriteFault, lend_bytes,

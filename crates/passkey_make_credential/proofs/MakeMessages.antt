@@ -6,7 +6,7 @@ use Rattle.passkey_kinds.specs.Lending.{AuthDataAreLent}
 use Rattle.std.proofs.Common.{leb-true}
 use Rattle.passkey_core.specs.DataNormal.{IsData, normal_data}
 use Rattle.passkey_core.specs.DataParts.{DataParts}
-use Rattle.passkey_entities.proofs.Entities.{rp_law}
+use Rattle.passkey_extensions.proofs.Entities.{rp_law}
 use Rattle.passkey_extensions.proofs.Extensions.{make_parts_back, make_extensions_around, make_credential_unsigned_law}
 use Rattle.passkey_extensions.specs.MakeExtensions.{make_extensions_tree}
 use Rattle.passkey_kinds.specs.Message.{WrittenIsReadBack}

@@ -1,7 +1,7 @@
 -- authenticatorMakeCredential requests and their options (CTAP 2.1, section 6.1).
 use Rattle.std.specs.Prelude.{[], ◌∷◌, true, false, codes, ℕ, nat_le, Bool, List, Option, None, Result, option_map}
-use Rattle.passkey_entities.specs.Entities.{rp}
-use Rattle.passkey_entities.specs.declared.rp.PublicKeyCredentialRpEntity.{PublicKeyCredentialRpEntity}
+use Rattle.passkey_extensions.specs.Entities.{rp}
+use Rattle.passkey_extensions.specs.declared.rp.PublicKeyCredentialRpEntity.{PublicKeyCredentialRpEntity}
 use Rattle.passkey_extensions.specs.MakeExtensions.{MakeExtensionsParts, make_extensions_coded, make_extensions_parts, make_extensions_kept}
 use Rattle.passkey_kinds.specs.Coded.{truth, bytes, accepted_of}
 use Rattle.passkey_kinds.specs.Words.{byte, plain, where_true, kept_if_some, text_string, PlainTable, placed, default_as, default, depth, max_depth, Item, Placed, required_at, default_at, optional_at, tolerated_at, places_of, EachFits, descriptor, parameters, webauthn_user, Fields, fields_with, read_item, record_tree, PublicKeyCredentialDescriptor, PublicKeyCredentialParameters, PublicKeyCredentialUserEntity}

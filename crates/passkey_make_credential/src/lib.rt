@@ -8,9 +8,9 @@ mod response;
 
 pub use options::Options;
 pub use passkey_core::make_credential::SignedExtensionOutputs;
-pub use passkey_entities::{
+pub use passkey_extensions::make_credential::{ExtensionInputs, UnsignedExtensionOutputs};
+pub use passkey_extensions::{
     MissingRpId, PublicKeyCredentialRpEntity, PublicKeyCredentialUserEntity,
 };
-pub use passkey_extensions::make_credential::{ExtensionInputs, UnsignedExtensionOutputs};
 pub use request::Request;
 pub use response::Response;

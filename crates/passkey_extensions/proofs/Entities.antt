@@ -1,6 +1,6 @@
 -- Relying parties and users can be decoded again, have one level, and their keys ascend.
 use Rattle.passkey_kinds.proofs.Steps.{arith, shortest_head, IsLawful, lawful, text_back, bytes_back, optional_place, plainly, puts_value, puts_default, no_more}
-use Rattle.passkey_entities.specs.Entities.{rp, user}
+use Rattle.passkey_extensions.specs.Entities.{rp, user}
 
 pub rp_law : IsLawful 0 rp
 unfolding shortest_head

@@ -2,7 +2,7 @@
 ghost use Rattle.std.specs.Prelude.{◌≡◌, ◌<◌, ◌⊎◌, length, IfOk, OnErr, None, IfErr, codes};
 ghost use Rattle.std.specs.Result.{result_ok};
 ghost use Rattle.std.specs.Option.{IsSomeAnd};
-ghost use Rattle.passkey_entities.specs.Entities.{user, user_of_webauthn, webauthn_of_user};
+ghost use Rattle.passkey_extensions.specs.Entities.{user, user_of_webauthn, webauthn_of_user};
 
 use passkey_bytes::{Bytes, Text};
 use passkey_kinds::{PlainRecord, Refusal, Row, Sink, Source, set};

@@ -1,7 +1,7 @@
 //! Relying parties in CTAP2's messages.
 ghost use Rattle.std.specs.Prelude.{◌≡◌, ◌<◌, ◌⊎◌, length, IfOk, OnErr};
 ghost use Rattle.std.specs.Option.{IsSomeAnd};
-ghost use Rattle.passkey_entities.specs.Entities.{rp, rp_of_webauthn};
+ghost use Rattle.passkey_extensions.specs.Entities.{rp, rp_of_webauthn};
 
 use crate::MissingRpId;
 use passkey_bytes::Text;

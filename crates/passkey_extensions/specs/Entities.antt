@@ -1,8 +1,8 @@
 -- Users and relying parties of CTAP2's messages (CTAP 2.1, section 6.1).
 use Rattle.std.specs.Prelude.{[], ◌∷◌, None, codes, List, ℕ, Option, Some, Result, Ok, Err}
-use Rattle.passkey_entities.specs.declared.missing_rp_id.MissingRpId.{MissingRpId}
-use Rattle.passkey_entities.specs.declared.rp.PublicKeyCredentialRpEntity.{PublicKeyCredentialRpEntity}
-use Rattle.passkey_entities.specs.declared.user.PublicKeyCredentialUserEntity.{PublicKeyCredentialUserEntity}
+use Rattle.passkey_extensions.specs.declared.missing_rp_id.MissingRpId.{MissingRpId}
+use Rattle.passkey_extensions.specs.declared.rp.PublicKeyCredentialRpEntity.{PublicKeyCredentialRpEntity}
+use Rattle.passkey_extensions.specs.declared.user.PublicKeyCredentialUserEntity.{PublicKeyCredentialUserEntity}
 use Rattle.passkey_kinds.specs.Coded.{text, bytes}
 use Rattle.passkey_kinds.specs.Words.{◌>>=◌, PlainTable, required_as, optional_as}
 use Rattle.passkey_webauthn.specs.declared.rp.PublicKeyCredentialRpEntity as webauthn_rp
