@@ -5,10 +5,10 @@
 
 use anyhow::{Result, bail};
 use passkey_cbor::{Cursor, Value, item_len};
-use passkey_get_assertion as get_assertion;
-use passkey_get_info as get_info;
+use passkey_ctap2::{
+    get_assertion as get_assertion, get_info as get_info, make_credential as make_credential,
+};
 use passkey_kinds::Message;
-use passkey_make_credential as make_credential;
 use passkey_run::{JsonKind, rewrite_json};
 use std::alloc::Global;
 use std::env;

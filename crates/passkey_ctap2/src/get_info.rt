@@ -1,2 +1,11 @@
-//! The response to authenticatorGetInfo (CTAP 2.1, section 6.4).
-pub use passkey_get_info::{Extension, Options, Response, Version};
+//! authenticatorGetInfo responses (CTAP 2.1, section 6.4).
+mod extension;
+pub mod laws;
+mod options;
+mod response;
+mod version;
+
+pub use extension::Extension;
+pub use options::Options;
+pub use response::Response;
+pub use version::Version;

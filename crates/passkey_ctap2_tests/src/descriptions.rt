@@ -1,9 +1,9 @@
 //! Data items, described by the tables of messages.
 use crate::tables::bytes_of;
 use passkey_cbor::Value;
+use passkey_ctap2::get_assertion::{Request, Response};
+use passkey_ctap2::get_info::Response as GetInfo;
 use passkey_explain::describe;
-use passkey_get_assertion::{Request, Response};
-use passkey_get_info::Response as GetInfo;
 use passkey_kinds::Message;
 use std::process::Abort;
 

@@ -1,9 +1,9 @@
 //! Why messages are refused, and where, as a person reads it.
 use crate::tables::bytes_of;
+use passkey_ctap2::get_assertion::{Request, Response};
+use passkey_ctap2::get_info::Response as GetInfo;
 use passkey_explain::{dropped, explain};
 use passkey_extensions::HmacGetSecretInput;
-use passkey_get_assertion::{Request, Response};
-use passkey_get_info::Response as GetInfo;
 use passkey_kinds::Message;
 use std::process::Abort;
 

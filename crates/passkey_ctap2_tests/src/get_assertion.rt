@@ -2,7 +2,7 @@
 use crate::tables::{
     assert_read, assert_refused, assert_rewritten, bytes_of, hexadecimal, item_of, shown,
 };
-use passkey_get_assertion::{Options, Request, Response};
+use passkey_ctap2::get_assertion::{Options, Request, Response};
 use std::process::Abort;
 
 #[test]

@@ -5,8 +5,8 @@ use crate::tables::{
 use passkey_bytes::{Bytes, List, Map, Text};
 use passkey_cbor::Value;
 use passkey_core::{Aaguid, AuthenticatorData};
+use passkey_ctap2::get_assertion::Request;
 use passkey_extensions::MissingRpId;
-use passkey_get_assertion::Request;
 use passkey_iana::Algorithm;
 use passkey_kinds::{Message, ReadBack, Refusal, TolerantList, Tolerated, WriteFault, laws};
 use passkey_webauthn::{

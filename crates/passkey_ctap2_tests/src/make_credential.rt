@@ -5,7 +5,7 @@ use crate::tables::{
 use passkey_bytes::{Bytes, Text};
 use passkey_cbor::Value;
 use passkey_core::AuthenticatorData;
-use passkey_make_credential::{
+use passkey_ctap2::make_credential::{
     Options, PublicKeyCredentialRpEntity, PublicKeyCredentialUserEntity, Request, Response,
 };
 use passkey_webauthn as webauthn;

@@ -2,8 +2,7 @@
 //! by hand from CTAP 2.1, sections 6.1 and 6.2, and RFC 8949.
 use crate::tables::{bytes_of, hexadecimal};
 use passkey_cbor::{BytesToken, Cursor};
-use passkey_get_assertion as get_assertion;
-use passkey_make_credential as make_credential;
+use passkey_ctap2::{get_assertion as get_assertion, make_credential as make_credential};
 use std::process::Abort;
 
 /// What begins the bytes, and the content of the byte string, or "none".

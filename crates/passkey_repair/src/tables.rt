@@ -3,8 +3,7 @@ ghost use Rattle.passkey_repair.specs.Tables.{credential_request_edits, credenti
 
 use crate::{Change, Deviation, Key, Literal, Repair, Repairable};
 use passkey_credential_management as credential_management;
-use passkey_get_assertion as get_assertion;
-use passkey_make_credential as make_credential;
+use passkey_ctap2::{get_assertion as get_assertion, make_credential as make_credential};
 
 static MAKE_REQUEST: [Repair; 7] = [
     Repair {

@@ -1,10 +1,10 @@
 -- What bytes of each kind are.
 use Rattle.passkey_extensions.specs.HmacInput.{hmac_input_fields, hmac_input_tree}
-use Rattle.passkey_get_assertion.specs.GetRequest.{get_request_fields, get_request_tree}
-use Rattle.passkey_get_assertion.specs.GetResponse.{get_response_fields, get_response_tree}
-use Rattle.passkey_get_info.specs.GetInfo.{get_info_fields, get_info_tree}
-use Rattle.passkey_make_credential.specs.MakeRequest.{make_request_fields, make_request_tree}
-use Rattle.passkey_make_credential.specs.MakeResponse.{make_response_fields, make_response_tree}
+use Rattle.passkey_ctap2.specs.GetRequest.{get_request_fields, get_request_tree}
+use Rattle.passkey_ctap2.specs.GetResponse.{get_response_fields, get_response_tree}
+use Rattle.passkey_ctap2.specs.GetInfo.{get_info_fields, get_info_tree}
+use Rattle.passkey_ctap2.specs.MakeRequest.{make_request_fields, make_request_tree}
+use Rattle.passkey_ctap2.specs.MakeResponse.{make_response_fields, make_response_tree}
 use Rattle.passkey_run.specs.Definition.{Definition, authenticator, item, message}
 use Rattle.passkey_run.specs.declared.kind.BytesKind.{BytesKind}
 use Rattle.passkey_run.specs.declared.kind.BytesKind.TheVariants as kind

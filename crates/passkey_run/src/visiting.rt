@@ -11,11 +11,15 @@ pub fn visit_bytes<V: Visitor>(kind: BytesKind, visitor: V) -> V::Output
     match kind {
         BytesKind::Cbor => visitor.visit_item(),
         BytesKind::Auth => visitor.visit_data(),
-        BytesKind::MakeRequest => visitor.visit_message::<passkey_make_credential::Request>(),
-        BytesKind::MakeResponse => visitor.visit_message::<passkey_make_credential::Response>(),
-        BytesKind::GetRequest => visitor.visit_message::<passkey_get_assertion::Request>(),
-        BytesKind::GetResponse => visitor.visit_message::<passkey_get_assertion::Response>(),
-        BytesKind::Info => visitor.visit_message::<passkey_get_info::Response>(),
+        BytesKind::MakeRequest => visitor.visit_message::<
+            passkey_ctap2::make_credential::Request,
+        >(),
+        BytesKind::MakeResponse => visitor.visit_message::<
+            passkey_ctap2::make_credential::Response,
+        >(),
+        BytesKind::GetRequest => visitor.visit_message::<passkey_ctap2::get_assertion::Request>(),
+        BytesKind::GetResponse => visitor.visit_message::<passkey_ctap2::get_assertion::Response>(),
+        BytesKind::Info => visitor.visit_message::<passkey_ctap2::get_info::Response>(),
         BytesKind::HmacInput => visitor.visit_message::<HmacGetSecretInput>(),
     }
 }

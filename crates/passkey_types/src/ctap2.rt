@@ -10,6 +10,7 @@ pub mod framing;
 pub mod get_assertion;
 pub mod get_info;
 pub mod large_blobs;
+pub mod laws;
 pub mod make_credential;
 
 pub use passkey_core::{
@@ -18,10 +19,10 @@ pub use passkey_core::{
     UnknownSpecError, VendorError,
 };
 pub use passkey_cose::{CoseError, CoseKeyConversionError, RefusedKey};
-pub use passkey_ctap2::{
-    Code, Fault, Form, FromCbor, Kept, Look, Message, Refusal, ToCbor, TolerantList, Tolerated,
-    Wanted, WriteFault, laws,
-};
 pub use passkey_further_extensions as further_extensions;
 pub use passkey_get_info_23 as get_info_23;
+pub use passkey_kinds::{
+    Code, Fault, Form, FromCbor, Kept, Look, Message, Refusal, ToCbor, TolerantList, Tolerated,
+    Wanted, WriteFault,
+};
 pub use passkey_repair as repair;

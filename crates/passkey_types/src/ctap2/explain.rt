@@ -1,7 +1,8 @@
 //! Why a message, or authenticator data, are refused, and where in their bytes; what is in a message, by
 //! the names of its members; what it leaves out.
-pub use passkey_ctap2::explain::{
-    Blame, Description, DroppedItem, Explanation, Extent, FieldName, Malformed, Reason,
-    RefusedItem, Step, Why, describe, dropped, explain, locate, malformed,
+pub use passkey_explain::{
+    Blame, Description, DroppedItem, Explanation, Extent, FieldName, Reason, RefusedItem, Step,
+    describe, dropped, explain, locate,
 };
 pub use passkey_explain_data::{DataPart, DataReason, DataRefusal, explain_data};
+pub use passkey_malformed::{Malformed, Why, malformed};

@@ -1,0 +1,4 @@
+pub mod MakeMessages
+pub mod GetMessages
+pub mod GetInfos
+pub mod Groups

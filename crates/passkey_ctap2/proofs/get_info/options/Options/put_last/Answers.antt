@@ -1,0 +1,14 @@
+use Rattle.passkey_ctap2.proofs.get_info.options.Options.put_last.Goals as goal
+
+pub returns-clause-put : goal.returns-clause-put
+returns-clause-put g c =
+    rw (
+      c.in_ok-put_some-8.ensures.put,
+      c.in_ok-put_some-7.ensures.put,
+      c.in_ok-put_some-6.ensures.put,
+      c.in_ok-put_some-5.ensures.put,
+      c.in_ok-put_some-4.ensures.put,
+      c.in_ok-put_some-3.ensures.put,
+      c.in_ok-put_some-2.ensures.put,
+      c.in_ok-put_some.ensures.put,
+    ) at c.put_some-9.ensures.put

@@ -1,0 +1,88 @@
+-- authenticatorGetAssertion requests and their options (CTAP 2.1, section 6.2).
+use Rattle.std.specs.Prelude.{[], ◌∷◌, true, false, codes, ℕ, nat_le, Bool, List, Option, None, Result, option_map}
+use Rattle.passkey_extensions.specs.GetExtensions.{GetExtensionsParts, get_extensions_coded, get_extensions_parts, get_extensions_kept}
+use Rattle.passkey_ctap2.specs.declared.get_assertion.options.Options.{Options}
+use Rattle.passkey_ctap2.specs.declared.get_assertion.request.Request.{Request}
+use Rattle.passkey_kinds.specs.Coded.{truth, byte, text, bytes, accepted_of, plain}
+use Rattle.passkey_kinds.specs.Words.{kept_if_some, PlainTable, default_as, depth, max_depth, Item, Placed, required_at, default_at, optional_at, tolerated_at, places_of, EachFits, descriptor, Fields, fields_with, read_item, record_tree, PublicKeyCredentialDescriptor}
+use Rattle.passkey_kinds.specs.declared.fault.Fault.{Fault}
+
+-- ---- options of authenticatorGetAssertion requests (CTAP 2.1, section 6.2)
+
+abbrev pub options_default : Options
+options_default = record { up = true; uv = false }
+
+abbrev pub options : PlainTable Options
+options = record {
+  blank = options_default;
+  members = default_as 1 (codes "up") truth (λ o. o.up) (λ x o. record o { up = x })
+      ∷ default_as 2 (codes "uv") truth (λ o. o.uv) (λ x o. record o { uv = x })
+      ∷ [];
+}
+
+-- ---- authenticatorGetAssertion requests (CTAP 2.1, section 6.2)
+
+-- what contracts see of a request
+pub record GetRequestParts : Type 0 where
+  pub rp_id : List ℕ
+  pub client_data_hash : List ℕ
+  pub allow_list : Option (List PublicKeyCredentialDescriptor)
+  pub extensions : Option GetExtensionsParts
+  pub options : Options
+  pub pin_auth : Option (List ℕ)
+  pub pin_protocol : Option ℕ
+
+abbrev pub get_request_parts : Request → GetRequestParts
+get_request_parts r = record {
+  rp_id = r.rp_id;
+  client_data_hash = r.client_data_hash;
+  allow_list = r.allow_list;
+  extensions = option_map get_extensions_parts r.extensions;
+  options = r.options;
+  pin_auth = r.pin_auth;
+  pin_protocol = r.pin_protocol;
+}
+
+abbrev pub get_request_members : List (Placed GetRequestParts)
+get_request_members =
+    required_at 1 (codes "rpId") text (λ r. r.rp_id) (λ x r. record r { rp_id = x })
+    ∷ required_at 2 (codes "clientDataHash") bytes (λ r. r.client_data_hash) (λ x r. record r { client_data_hash = x })
+    ∷ tolerated_at 3 (codes "allowList") (accepted_of (plain descriptor)) (λ r. r.allow_list)
+    (λ x r. record r { allow_list = x })
+    ∷ tolerated_at 4 (codes "extensions") get_extensions_coded (λ r. r.extensions) (λ x r. record r { extensions = x })
+    ∷ default_at 5 (codes "options") (plain options) (λ r. r.options) (λ x r. record r { options = x })
+    ∷ optional_at 6 (codes "pinAuth") bytes (λ r. r.pin_auth) (λ x r. record r { pin_auth = x })
+    ∷ optional_at 7 (codes "pinProtocol") byte (λ r. r.pin_protocol) (λ x r. record r { pin_protocol = x })
+    ∷ []
+
+abbrev pub get_request_fields : Fields GetRequestParts
+get_request_fields = fields_with true (record {
+  rp_id = [];
+  client_data_hash = [];
+  allow_list = None;
+  extensions = None;
+  options = options_default;
+  pin_auth = None;
+  pin_protocol = None;
+}) get_request_members
+
+-- the request that a data item decodes to, or its first fault
+abbrev pub read_get_request : Item → Result GetRequestParts Fault
+read_get_request = read_item get_request_fields
+
+-- ---- the encoding of a request
+
+abbrev pub get_request_tree : GetRequestParts → Item
+get_request_tree r = record_tree (places_of get_request_members r)
+
+-- the data item that a request keeps undecoded, if there is one
+abbrev pub get_request_kept : GetRequestParts → List Item
+get_request_kept r = kept_if_some get_extensions_kept r.extensions
+
+-- what holds of every request
+abbrev pub GetRequestFits : GetRequestParts → Type 0
+GetRequestFits = EachFits get_request_members
+
+-- the encoding has at most `max_depth` nesting levels, so it can be decoded again
+abbrev pub is_get_request_coherent : GetRequestParts → Bool
+is_get_request_coherent r = nat_le (depth (get_request_tree r)) max_depth

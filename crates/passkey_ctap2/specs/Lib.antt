@@ -1,0 +1,6 @@
+pub mod MakeRequest
+pub mod MakeResponse
+pub mod GetRequest
+pub mod GetResponse
+pub mod GetInfo
+pub mod Encodable

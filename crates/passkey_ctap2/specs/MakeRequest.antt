@@ -1,0 +1,110 @@
+-- authenticatorMakeCredential requests and their options (CTAP 2.1, section 6.1).
+use Rattle.std.specs.Prelude.{[], ◌∷◌, true, false, codes, ℕ, nat_le, Bool, List, Option, None, Result, option_map}
+use Rattle.passkey_extensions.specs.Entities.{rp}
+use Rattle.passkey_extensions.specs.declared.rp.PublicKeyCredentialRpEntity.{PublicKeyCredentialRpEntity}
+use Rattle.passkey_extensions.specs.MakeExtensions.{MakeExtensionsParts, make_extensions_coded, make_extensions_parts, make_extensions_kept}
+use Rattle.passkey_kinds.specs.Coded.{truth, bytes, accepted_of}
+use Rattle.passkey_kinds.specs.Words.{byte, plain, where_true, kept_if_some, text_string, PlainTable, placed, default_as, default, depth, max_depth, Item, Placed, required_at, default_at, optional_at, tolerated_at, places_of, EachFits, descriptor, parameters, webauthn_user, Fields, fields_with, read_item, record_tree, PublicKeyCredentialDescriptor, PublicKeyCredentialParameters, PublicKeyCredentialUserEntity}
+use Rattle.passkey_kinds.specs.declared.fault.Fault.{Fault}
+use Rattle.passkey_ctap2.specs.declared.make_credential.options.Options.{Options}
+use Rattle.passkey_ctap2.specs.declared.make_credential.request.Request.{Request}
+
+-- ---- options of authenticatorMakeCredential requests (CTAP 2.1, section 6.1)
+
+abbrev pub options_default : Options
+options_default = record { rk = false; up = true; uv = false }
+
+-- `up` is true by default, and is encoded only if it is true
+abbrev pub options : PlainTable Options
+options = record {
+  blank = options_default;
+  members = default_as 1 (codes "rk") truth (λ o. o.rk) (λ x o. record o { rk = x })
+      ∷ placed (default 2 (codes "up") truth.typed (λ x o. record o { up = x }))
+      (λ o. where_true (text_string (codes "up")) o.up)
+      ∷ default_as 3 (codes "uv") truth (λ o. o.uv) (λ x o. record o { uv = x })
+      ∷ [];
+}
+
+-- `up` isn't encoded if it is false, and then decodes to true
+abbrev pub normal_options : Options → Options
+normal_options o = record o { up = true }
+
+-- ---- authenticatorMakeCredential requests (CTAP 2.1, section 6.1)
+
+-- what contracts see of a request
+pub record MakeRequestParts : Type 0 where
+  pub client_data_hash : List ℕ
+  pub rp : PublicKeyCredentialRpEntity
+  pub user : PublicKeyCredentialUserEntity
+  pub pub_key_cred_params : List PublicKeyCredentialParameters
+  pub exclude_list : Option (List PublicKeyCredentialDescriptor)
+  pub extensions : Option MakeExtensionsParts
+  pub options : Options
+  pub pin_auth : Option (List ℕ)
+  pub pin_protocol : Option ℕ
+
+abbrev pub make_request_parts : Request → MakeRequestParts
+make_request_parts r = record {
+  client_data_hash = r.client_data_hash;
+  rp = r.rp;
+  user = r.user;
+  pub_key_cred_params = r.pub_key_cred_params;
+  exclude_list = r.exclude_list;
+  extensions = option_map make_extensions_parts r.extensions;
+  options = r.options;
+  pin_auth = r.pin_auth;
+  pin_protocol = r.pin_protocol;
+}
+
+abbrev pub make_request_members : List (Placed MakeRequestParts)
+make_request_members =
+    required_at 1 (codes "clientDataHash") bytes (λ r. r.client_data_hash) (λ x r. record r { client_data_hash = x })
+    ∷ required_at 2 (codes "rp") (plain rp) (λ r. r.rp) (λ x r. record r { rp = x })
+    ∷ required_at 3 (codes "user") (plain webauthn_user) (λ r. r.user) (λ x r. record r { user = x })
+    ∷ required_at 4 (codes "pubKeyCredParams") (accepted_of (plain parameters)) (λ r. r.pub_key_cred_params)
+    (λ x r. record r { pub_key_cred_params = x })
+    ∷ tolerated_at 5 (codes "excludeList") (accepted_of (plain descriptor)) (λ r. r.exclude_list)
+    (λ x r. record r { exclude_list = x })
+    ∷ optional_at 6 (codes "extensions") make_extensions_coded (λ r. r.extensions) (λ x r. record r { extensions = x })
+    ∷ default_at 7 (codes "options") (plain options) (λ r. r.options) (λ x r. record r { options = x })
+    ∷ optional_at 8 (codes "pinAuth") bytes (λ r. r.pin_auth) (λ x r. record r { pin_auth = x })
+    ∷ optional_at 9 (codes "pinProtocol") byte (λ r. r.pin_protocol) (λ x r. record r { pin_protocol = x })
+    ∷ []
+
+abbrev pub make_request_fields : Fields MakeRequestParts
+make_request_fields = fields_with true (record {
+  client_data_hash = [];
+  rp = rp.blank;
+  user = webauthn_user.blank;
+  pub_key_cred_params = [];
+  exclude_list = None;
+  extensions = None;
+  options = options_default;
+  pin_auth = None;
+  pin_protocol = None;
+}) make_request_members
+
+-- the request that a data item decodes to, or its first fault
+abbrev pub read_make_request : Item → Result MakeRequestParts Fault
+read_make_request = read_item make_request_fields
+
+-- ---- the encoding of a request
+
+abbrev pub make_request_tree : MakeRequestParts → Item
+make_request_tree r = record_tree (places_of make_request_members r)
+
+-- the data item that a request keeps undecoded, if there is one
+abbrev pub make_request_kept : MakeRequestParts → List Item
+make_request_kept r = kept_if_some make_extensions_kept r.extensions
+
+-- what holds of every request
+abbrev pub MakeRequestFits : MakeRequestParts → Type 0
+MakeRequestFits = EachFits make_request_members
+
+-- the encoding has at most `max_depth` nesting levels, so it can be decoded again
+abbrev pub is_make_request_coherent : MakeRequestParts → Bool
+is_make_request_coherent r = nat_le (depth (make_request_tree r)) max_depth
+
+-- the request that the encoding decodes to
+abbrev pub normal_make_request : MakeRequestParts → MakeRequestParts
+normal_make_request r = record r { options = normal_options r.options }

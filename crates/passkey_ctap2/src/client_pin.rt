@@ -1,2 +1,0 @@
-//! The messages of authenticatorClientPIN (CTAP 2.1, section 6.5).
-pub use passkey_client_pin::{Permissions, Request, Response, SubCommand};

@@ -1,2 +1,0 @@
-//! The request of authenticatorConfig (CTAP 2.1, section 6.11).
-pub use passkey_config::{MinPinLengthParameters, Request, SubCommand, VendorParameters};

@@ -1,5 +1,0 @@
-use Rattle.passkey_get_assertion.proofs.GetMessages.{get_response_coherent}
-use Rattle.passkey_get_assertion.proofs.response.ResponseMessage.decoded_is_coherent.Goals as goal
-
-pub returns : goal.returns
-returns c = get_response_coherent c.given_data_are_coherent.ensures

@@ -1,2 +1,0 @@
-pub mod GetRequest
-pub mod GetResponse

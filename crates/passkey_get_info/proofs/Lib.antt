@@ -1,2 +1,0 @@
-pub mod GetInfos
-pub mod Groups

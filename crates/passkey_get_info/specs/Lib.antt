@@ -1,2 +1,0 @@
-pub mod GetInfo
-pub mod Encodable

@@ -1,6 +1,0 @@
-use Rattle.passkey_make_credential.proofs.MakeMessages.{attestation_returns}
-use Rattle.passkey_make_credential.proofs.laws.written_attestation_is_read_back.Goals as goal
-
-pub returns : goal.returns
-returns c = attestation_returns c.written_is_leading_item.ensures c.written_data_are_read_back.ensures
-    c.read_is_given.ensures

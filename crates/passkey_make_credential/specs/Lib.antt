@@ -1,2 +1,0 @@
-pub mod MakeRequest
-pub mod MakeResponse
