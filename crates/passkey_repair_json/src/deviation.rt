@@ -28,8 +28,8 @@ pub enum Deviation {
     /// The client extension outputs are null, as the fake client of webauthn-ruby writes them. They
     /// become an empty object (WebAuthn Level 3, section 5.1).
     NullOutputs,
-    /// The client extension outputs are absent, and there is a member `extensions`, as older clients
-    /// of webauthn-rs name them. They become that member's value.
+    /// The client extension outputs are absent, and there is a member `extensions`, as webauthn-rs
+    /// names them. They become that member's value.
     RenamedOutputs,
     /// A registration's authenticator data are absent: browsers from before WebAuthn Level 3, and
     /// libraries for them, send the attestation object alone. They are taken from it (WebAuthn
