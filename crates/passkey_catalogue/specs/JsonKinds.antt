@@ -4,13 +4,12 @@ use Rattle.std.specs.Option.{ok_or}
 use Rattle.passkey_bytes.specs.Map.{ByteMap}
 use Rattle.passkey_further_client.specs.ClientExtensions.{client_extension_inputs, client_extension_outputs}
 use Rattle.passkey_further_client.specs.Mediated.{mediated_options}
-use Rattle.passkey_further_client.specs.PaymentData.{additional_payment_data, is_payment, payment_members}
+use Rattle.passkey_further_client.specs.PaymentData.{is_payment, payment_in, payment_members}
 use Rattle.passkey_further_client.specs.TopOrigin.{is_top_origin, origin_members}
 use Rattle.passkey_json.specs.Coded.{map_value, truth_value}
 use Rattle.passkey_json.specs.Fault.{Fault, no_object, refused}
 use Rattle.passkey_json.specs.Kind.{text}
 use Rattle.passkey_json.specs.Members.{◌>>=◌, if_present, member}
-use Rattle.passkey_json.specs.Table.{nested}
 use Rattle.passkey_json.specs.declared.bytes_form.BytesForm.TheVariants.{Base64Url}
 use Rattle.passkey_options.specs.Options.{creation_options, request_options}
 use Rattle.passkey_catalogue.specs.contracts.json_kind.FurtherJsonKind.{the_type}
@@ -60,6 +59,5 @@ further_json_rewritten kind.MediatedRequest = table_rewritten (mediated_options 
 further_json_rewritten kind.TopOrigin =
     client_data_rewritten is_top_origin (λ o. if_present text (member (codes "topOrigin") o)) origin_members
 further_json_rewritten kind.Payment =
-    client_data_rewritten is_payment
-    (λ o. if_present (nested additional_payment_data).kind (member (codes "payment") o)) payment_members
+    client_data_rewritten is_payment payment_in payment_members
 further_json_rewritten kind.Capabilities = capabilities_rewritten

@@ -12,9 +12,9 @@ pub enum FurtherJsonKind {
     AcceptedCredentials,
     /// The argument of signalCurrentUserDetails (section 5.1.10.4).
     UserDetails,
-    /// Inputs of all registered client extensions (section 9.3).
+    /// Inputs of client extensions (section 9.3).
     ClientInputs,
-    /// Outputs of all registered client extensions (section 9.4).
+    /// Outputs of client extensions (section 9.4).
     ClientOutputs,
     /// The options of a registration, with `mediation` (section 5.1.3).
     MediatedCreation,

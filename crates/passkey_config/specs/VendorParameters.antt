@@ -1,4 +1,4 @@
--- Parameters of vendorPrototype (CTAP 2.1, section 6.11.5).
+-- Parameters of vendorPrototype (CTAP 2.1, section 6.11.3).
 use Rattle.std.specs.Prelude.{[], codes, ◌∷◌}
 use Rattle.passkey_config.specs.declared.vendor_parameters.VendorParameters.{VendorParameters}
 use Rattle.passkey_kinds.specs.Numbered.{long}

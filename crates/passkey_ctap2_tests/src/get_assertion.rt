@@ -1,7 +1,5 @@
 //! authenticatorGetAssertion (CTAP 2.1, section 6.2).
-use crate::tables::{
-    assert_read, assert_refused, assert_rewritten, bytes_of, hexadecimal, item_of, shown,
-};
+use crate::tables::{assert_read, assert_refused, assert_rewritten, bytes_of, shown};
 use passkey_ctap2::get_assertion::{Options, Request, Response};
 use std::process::Abort;
 
@@ -23,10 +21,6 @@ fn options(rt: HostRuntime) {
 const REQUEST: &str =
     "a7070206410b05a1627570f404a00381a2626964410a64747970656a7075626c69632d6b6579024108016161";
 
-/// Its encoding.
-const REQUEST_WRITTEN: &str =
-    "a70161610241080381a2626964410a64747970656a7075626c69632d6b657904a005a2627570f4627576f406410b0702";
-
 const REQUEST_SHOWN: &str = concat!(
     "Ok((Request { rp_id: \"a\", client_data_hash: Bytes([8]), ",
     "allow_list: Some([PublicKeyCredentialDescriptor { ty: PublicKey, id: Bytes([10]), transports: None }]), ",
@@ -41,28 +35,15 @@ fn read_request(rt: &(impl Abort + AllocGlobal), item: &str) -> String {
     )
 }
 
-fn rewritten_request(rt: &(impl Abort + AllocGlobal), item: &str) -> String {
-    let request = Request::from_value(rt.alloc(), &item_of(rt, item)).expect(rt, "a request");
-    let bytes = request.to_vec(rt.alloc()).expect(rt, "memory");
-    hexadecimal(rt, bytes.as_slice())
-}
-
 #[test]
 fn requests(rt: HostRuntime) {
     assert_eq!(rt; read_request(&rt, REQUEST).as_str(), REQUEST_SHOWN);
-    assert_eq!(rt; rewritten_request(&rt, REQUEST).as_str(), REQUEST_WRITTEN);
 }
 
 /// A response with every member, the last one first.
 const RESPONSE: &str = concat!(
     "a808a007410a06f5050204a26469636f6e61696269644108034109025825050605060506050605060506050605060506",
     "0506050605060506050605060506010000000901a2626964410764747970656a7075626c69632d6b6579",
-);
-
-/// Its encoding.
-const RESPONSE_WRITTEN: &str = concat!(
-    "a801a2626964410764747970656a7075626c69632d6b6579025825050605060506050605060506050605060506050605",
-    "0605060506050605060506010000000903410904a262696441086469636f6e6169050206f507410a08a163707266f6",
 );
 
 const RESPONSE_SHOWN: &str = concat!(
@@ -84,17 +65,7 @@ fn read_response(rt: &(impl Abort + AllocGlobal), item: &str) -> String {
     )
 }
 
-fn rewritten_response(rt: &(impl Abort + AllocGlobal), item: &str) -> String {
-    let response = Response::from_value(rt.alloc(), &item_of(rt, item)).expect(rt, "a response");
-    let bytes = response.to_vec(rt.alloc()).expect(rt, "memory");
-    hexadecimal(rt, bytes.as_slice())
-}
-
 #[test]
 fn responses(rt: HostRuntime) {
     assert_eq!(rt; read_response(&rt, RESPONSE).as_str(), RESPONSE_SHOWN);
-    assert_eq!(rt;
-        rewritten_response(&rt, RESPONSE).as_str(),
-        RESPONSE_WRITTEN
-    );
 }

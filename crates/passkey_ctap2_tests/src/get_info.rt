@@ -1,7 +1,5 @@
 //! authenticatorGetInfo responses (CTAP 2.1, section 6.4; CTAP 2.2 for the members from 0x16 on).
-use crate::tables::{
-    assert_read, assert_refused, assert_rewritten, bytes_of, hexadecimal, item_of, shown,
-};
+use crate::tables::{assert_read, assert_refused, assert_rewritten, bytes_of, shown};
 use passkey_ctap2::get_info::{Extension, Options, Response, Version};
 use std::process::Abort;
 
@@ -123,14 +121,7 @@ fn read_response(rt: &(impl Abort + AllocGlobal), item: &str) -> String {
     )
 }
 
-fn rewritten_response(rt: &(impl Abort + AllocGlobal), item: &str) -> String {
-    let response = Response::from_value(rt.alloc(), &item_of(rt, item)).expect(rt, "a response");
-    let bytes = response.to_vec(rt.alloc()).expect(rt, "memory");
-    hexadecimal(rt, bytes.as_slice())
-}
-
 #[test]
 fn responses(rt: HostRuntime) {
     assert_eq!(rt; read_response(&rt, RESPONSE).as_str(), RESPONSE_SHOWN);
-    assert_eq!(rt; rewritten_response(&rt, RESPONSE).as_str(), RESPONSE);
 }

@@ -111,13 +111,6 @@ const REQUEST: &str = concat!(
     "73706c61794e616d65616402a26269646161646e616d656162014108",
 );
 
-/// Its encoding.
-const REQUEST_WRITTEN: &str = concat!(
-    "a901410802a26269646161646e616d65616203a36269644109646e616d65616e6b646973706c61794e616d6561640481",
-    "a263616c672664747970656a7075626c69632d6b65790581a2626964410a64747970656a7075626c69632d6b657906a1",
-    "6b686d61632d736563726574f507a362726bf5627570f5627576f508410b0902",
-);
-
 const REQUEST_SHOWN: &str = concat!(
     "Ok((Request { client_data_hash: Bytes([8]), rp: PublicKeyCredentialRpEntity { id: \"a\", name: Some(\"b\") }, ",
     "user: PublicKeyCredentialUserEntity { id: Bytes([9]), display_name: \"d\", name: \"n\" }, ",
@@ -134,27 +127,14 @@ fn read_request(rt: &(impl Abort + AllocGlobal), item: &str) -> String {
     )
 }
 
-fn rewritten_request(rt: &(impl Abort + AllocGlobal), item: &str) -> String {
-    let request = Request::from_value(rt.alloc(), &item_of(rt, item)).expect(rt, "a request");
-    let bytes = request.to_vec(rt.alloc()).expect(rt, "memory");
-    hexadecimal(rt, bytes.as_slice())
-}
-
 #[test]
 fn requests(rt: HostRuntime) {
     assert_eq!(rt; read_request(&rt, REQUEST).as_str(), REQUEST_SHOWN);
-    assert_eq!(rt; rewritten_request(&rt, REQUEST).as_str(), REQUEST_WRITTEN);
 }
 
 /// A response with every member, the last one first.
 const RESPONSE: &str =
     "a606a005410704f503a002582505060506050605060506050605060506050605060506050605060506050605060100000009016166";
-
-/// Its encoding.
-const RESPONSE_WRITTEN: &str = concat!(
-    "a60161660258250506050605060506050605060506050605060506050605060506050605060506010000000903a004f5",
-    "05410706a163707266f6",
-);
 
 const RESPONSE_SHOWN: &str = concat!(
     "Ok((Response { fmt: \"f\", auth_data: AuthenticatorData { rp_id_hash: [5, 6, 5, 6, 5, 6, 5, 6, 5, 6, 5, 6, 5, 6, ",
@@ -177,12 +157,6 @@ fn read_response(rt: &(impl Abort + AllocGlobal), item: &str) -> String {
     )
 }
 
-fn rewritten_response(rt: &(impl Abort + AllocGlobal), item: &str) -> String {
-    let response = Response::from_value(rt.alloc(), &item_of(rt, item)).expect(rt, "a response");
-    let bytes = response.to_vec(rt.alloc()).expect(rt, "memory");
-    hexadecimal(rt, bytes.as_slice())
-}
-
 fn attestation_object(rt: &(impl Abort + AllocGlobal), item: &str) -> String {
     let response = Response::from_value(rt.alloc(), &item_of(rt, item)).expect(rt, "a response");
     let bytes = response.as_webauthn_bytes(rt.alloc()).expect(rt, "memory");
@@ -192,10 +166,6 @@ fn attestation_object(rt: &(impl Abort + AllocGlobal), item: &str) -> String {
 #[test]
 fn responses(rt: HostRuntime) {
     assert_eq!(rt; read_response(&rt, RESPONSE).as_str(), RESPONSE_SHOWN);
-    assert_eq!(rt;
-        rewritten_response(&rt, RESPONSE).as_str(),
-        RESPONSE_WRITTEN
-    );
     assert_eq!(rt;
         attestation_object(&rt, RESPONSE).as_str(),
         ATTESTATION_OBJECT

@@ -10,7 +10,7 @@ use Rattle.passkey_further_client.specs.Names.{policy_value}
 use Rattle.passkey_further_client.specs.Payment.{payment_inputs, payment_outputs}
 use Rattle.passkey_json.specs.Coded.{bytes_value, list_value, text_value, truth_value, word_value}
 use Rattle.passkey_json.specs.Extensions.{credential_properties, prf_inputs}
-use Rattle.passkey_json.specs.Table.{PlainTable, nested, optional_as, required_as}
+use Rattle.passkey_json.specs.Table.{PlainTable, nested, optional_as, or_as, required_as}
 use Rattle.passkey_json.specs.WebAuthn.{prf_outputs}
 
 -- inputs of the client extension largeBlob (WebAuthn Level 3, section 10.1.5)
@@ -35,12 +35,14 @@ large_blob_outputs = record {
   sound = λ r. (refl, refl);
 }
 
--- inputs of the client extension hmacGetSecret (CTAP 2.1, section 12.5)
+-- inputs of the client extension hmacGetSecret (CTAP 2.1, section 12.5), also by webauthn-rs's names
 abbrev pub hmac_get_secret_inputs : PlainTable HmacGetSecretInputs
 hmac_get_secret_inputs = record {
   blank = record { salt1 = []; salt2 = None };
-  members = required_as 1 (codes "salt1") bytes_value (λ r. r.salt1) (λ v r. record r { salt1 = v })
-      ∷ optional_as 2 (codes "salt2") bytes_value (λ r. r.salt2) (λ v r. record r { salt2 = v })
+  members = or_as (codes "output1")
+      (required_as 1 (codes "salt1") bytes_value (λ r. r.salt1) (λ v r. record r { salt1 = v }))
+      ∷ or_as (codes "output2")
+      (optional_as 2 (codes "salt2") bytes_value (λ r. r.salt2) (λ v r. record r { salt2 = v }))
       ∷ [];
   sound = λ r. (refl, refl);
 }
@@ -118,6 +120,9 @@ client_extension_outputs = record {
     hmac_get_secret = None;
     uvm = None;
     payment = None;
+    cred_protect = None;
+    hmac_secret = None;
+    min_pin_length = None;
   };
   members = optional_as 1 (codes "appid") truth_value (λ r. r.appid) (λ v r. record r { appid = v })
       ∷ optional_as 2 (codes "appidExclude") truth_value
@@ -137,6 +142,12 @@ client_extension_outputs = record {
       ∷ optional_as 10 (codes "uvm") (list_value (list_value word_value))
       (λ r. r.uvm) (λ v r. record r { uvm = v })
       ∷ optional_as 11 (codes "payment") (nested payment_outputs) (λ r. r.payment) (λ v r. record r { payment = v })
+      ∷ optional_as 12 (codes "credProtect") text_value
+      (λ r. r.cred_protect) (λ v r. record r { cred_protect = v })
+      ∷ optional_as 13 (codes "hmacSecret") truth_value
+      (λ r. r.hmac_secret) (λ v r. record r { hmac_secret = v })
+      ∷ optional_as 14 (codes "minPinLength") word_value
+      (λ r. r.min_pin_length) (λ v r. record r { min_pin_length = v })
       ∷ [];
   sound = λ r. (refl, refl);
 }

@@ -3,9 +3,10 @@ use Rattle.std.specs.Prelude.{true, [], ◌∷◌, None, codes, refl}
 use Rattle.passkey_further_client.specs.declared.payment.BrowserBoundSignature.{BrowserBoundSignature}
 use Rattle.passkey_further_client.specs.declared.payment.PaymentCredentialInstrument.{PaymentCredentialInstrument}
 use Rattle.passkey_further_client.specs.declared.payment.PaymentCurrencyAmount.{PaymentCurrencyAmount}
+use Rattle.passkey_further_client.specs.declared.payment.PaymentEntityLogo.{PaymentEntityLogo}
 use Rattle.passkey_further_client.specs.declared.payment.PaymentInputs.{PaymentInputs}
 use Rattle.passkey_further_client.specs.declared.payment.PaymentOutputs.{PaymentOutputs}
-use Rattle.passkey_json.specs.Coded.{bytes_value, text_value, truth_value}
+use Rattle.passkey_json.specs.Coded.{bytes_value, list_value, text_value, truth_value}
 use Rattle.passkey_json.specs.Table.{PlainTable, nested, accepted_as, default_as, optional_as, required_as}
 use Rattle.passkey_json.specs.WebAuthn.{parameters}
 
@@ -33,6 +34,16 @@ payment_instrument = record {
   sound = λ r. (refl, refl);
 }
 
+-- `PaymentEntityLogo`
+abbrev pub payment_entity_logo : PlainTable PaymentEntityLogo
+payment_entity_logo = record {
+  blank = record { url = []; label = [] };
+  members = required_as 1 (codes "url") text_value (λ r. r.url) (λ v r. record r { url = v })
+      ∷ required_as 2 (codes "label") text_value (λ r. r.label) (λ v r. record r { label = v })
+      ∷ [];
+  sound = λ r. (refl, refl);
+}
+
 -- `AuthenticationExtensionsPaymentInputs`
 abbrev pub payment_inputs : PlainTable PaymentInputs
 payment_inputs = record {
@@ -45,6 +56,7 @@ payment_inputs = record {
     total = None;
     instrument = None;
     browser_bound_pub_key_cred_params = None;
+    payment_entities_logos = None;
   };
   members = optional_as 1 (codes "isPayment") truth_value (λ r. r.is_payment) (λ v r. record r { is_payment = v })
       ∷ optional_as 2 (codes "rpId") text_value (λ r. r.rp_id) (λ v r. record r { rp_id = v })
@@ -56,6 +68,8 @@ payment_inputs = record {
       (λ r. r.instrument) (λ v r. record r { instrument = v })
       ∷ accepted_as 8 (codes "browserBoundPubKeyCredParams") (nested parameters)
       (λ r. r.browser_bound_pub_key_cred_params) (λ v r. record r { browser_bound_pub_key_cred_params = v })
+      ∷ optional_as 9 (codes "paymentEntitiesLogos") (list_value (nested payment_entity_logo))
+      (λ r. r.payment_entities_logos) (λ v r. record r { payment_entities_logos = v })
       ∷ [];
   sound = λ r. (refl, refl);
 }

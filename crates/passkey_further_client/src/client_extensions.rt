@@ -13,8 +13,8 @@ use passkey_json::{
 use passkey_webauthn::AuthenticationExtensionsPrfOutputs;
 use std::alloc::Global;
 
-/// Inputs of all registered client extensions: what a relying party asks for (WebAuthn Level 3,
-/// section 9.3). `None` means that the member is absent; null also decodes to `None`.
+/// Inputs of client extensions: what a relying party asks for (WebAuthn Level 3, section 9.3). These
+/// are the registered ones of Level 2 on, those of CTAP, and payment. `None` means that the member is absent; null also decodes to `None`.
 #[derive(Debug, Drop)]
 pub struct ClientExtensionInputs {
     /// appid: the AppID of U2F under which credentials may be used, at a sign-in (WebAuthn Level 3,
@@ -141,8 +141,8 @@ impl PlainJsonRecord for ClientExtensionInputs {
     }
 }
 
-/// Outputs of all registered client extensions: what the client returns (WebAuthn Level 3, section
-/// 9.4). `None` means that the member is absent; null also decodes to `None`.
+/// Outputs of client extensions: what the client returns (WebAuthn Level 3, section 9.4). These are
+/// those of `ClientExtensionInputs`, and what webauthn-rs adds. `None` means that the member is absent; null also decodes to `None`.
 #[derive(Debug, Drop)]
 pub struct ClientExtensionOutputs {
     /// appid: whether the AppID of U2F was used (WebAuthn Level 3, section 10.1.1).
@@ -168,6 +168,13 @@ pub struct ClientExtensionOutputs {
     pub uvm: Option<List<List<u32>>>,
     /// payment: the signature of the browser's key (W3C Secure Payment Confirmation).
     pub payment: Option<PaymentOutputs>,
+    /// credProtect: the new credential's protection policy, as webauthn-rs names it. Any name is
+    /// kept.
+    pub cred_protect: Option<Text>,
+    /// hmacSecret: whether the new credential supports hmac-secret, as webauthn-rs says it.
+    pub hmac_secret: Option<bool>,
+    /// minPinLength: the minimum PIN length, as webauthn-rs says it.
+    pub min_pin_length: Option<u32>,
 }
 
 impl PlainJsonRecord for ClientExtensionOutputs {
@@ -186,6 +193,9 @@ impl PlainJsonRecord for ClientExtensionOutputs {
             Row::Named(9, "hmacGetSecret"),
             Row::Named(10, "uvm"),
             Row::Named(11, "payment"),
+            Row::Named(12, "credProtect"),
+            Row::Named(13, "hmacSecret"),
+            Row::Named(14, "minPinLength"),
         ]
     }
 
@@ -202,6 +212,9 @@ impl PlainJsonRecord for ClientExtensionOutputs {
             hmac_get_secret: None,
             uvm: None,
             payment: None,
+            cred_protect: None,
+            hmac_secret: None,
+            min_pin_length: None,
         }
     }
 
@@ -218,6 +231,9 @@ impl PlainJsonRecord for ClientExtensionOutputs {
             9 => self.hmac_get_secret = member.or_default(None)?,
             10 => self.uvm = member.or_default(None)?,
             11 => self.payment = member.or_default(None)?,
+            12 => self.cred_protect = member.or_default(None)?,
+            13 => self.hmac_secret = member.or_default(None)?,
+            14 => self.min_pin_length = member.or_default(None)?,
             _ => {}
         }
         Ok(())
@@ -236,6 +252,9 @@ impl PlainJsonRecord for ClientExtensionOutputs {
             9 => encoder.optional(&self.hmac_get_secret),
             10 => encoder.optional(&self.uvm),
             11 => encoder.optional(&self.payment),
+            12 => encoder.optional(&self.cred_protect),
+            13 => encoder.optional(&self.hmac_secret),
+            14 => encoder.optional(&self.min_pin_length),
             _ => Ok(None),
         }
     }

@@ -6,7 +6,8 @@ use passkey_json::{EncodeResult, JsonEncoder, JsonFault, Member, PlainJsonRecord
 use std::alloc::Global;
 
 /// Inputs of the client extension hmacGetSecret (CTAP 2.1, section 12.5). `None` means that the
-/// member is absent; null also decodes to `None`.
+/// member is absent; null also decodes to `None`. The salts are also decoded under the names
+/// `output1` and `output2`, by which webauthn-rs sends them; both names of one are `Repeated`.
 #[derive(Debug, Drop)]
 pub struct HmacGetSecretInputs {
     /// salt1: the first salt, 32 bytes. The length isn't checked.
@@ -19,7 +20,10 @@ impl PlainJsonRecord for HmacGetSecretInputs {
     ghost table = { hmac_get_secret_inputs };
 
     fn rows() -> &'static [Row] {
-        &[Row::Named(1, "salt1"), Row::Named(2, "salt2")]
+        &[
+            Row::Aliased(1, "salt1", "output1"),
+            Row::Aliased(2, "salt2", "output2"),
+        ]
     }
 
     fn blank(alloc: Global) -> HmacGetSecretInputs {

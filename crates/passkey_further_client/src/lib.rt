@@ -1,4 +1,4 @@
-//! What WebAuthn Level 3 has over JSON beside the ceremonies' options and responses: all client
+//! What WebAuthn Level 3 has over JSON beside the ceremonies' options and responses: client
 //! extensions, mediation, client capabilities, and the origin of the top-level page; and payments
 //! (W3C Secure Payment Confirmation).
 #![tactic(auto)]
@@ -19,10 +19,10 @@ pub use mediated::MediatedOptions;
 pub use names::{CredentialMediationRequirement, CredentialProtectionPolicy};
 use passkey_bytes::{Map, Text};
 pub use payment::{
-    BrowserBoundSignature, PaymentCredentialInstrument, PaymentCurrencyAmount, PaymentInputs,
-    PaymentOutputs,
+    BrowserBoundSignature, PaymentCredentialInstrument, PaymentCurrencyAmount, PaymentEntityLogo,
+    PaymentInputs, PaymentOutputs,
 };
-pub use payment_data::{AdditionalPaymentData, PaymentData};
+pub use payment_data::{AdditionalPaymentData, PaymentData, RegistrationPaymentData};
 pub use top_origin::TopOrigin;
 
 /// The result of `PublicKeyCredential.getClientCapabilities()` (WebAuthn Level 3, section 5.1.7): whether

@@ -2,6 +2,7 @@
 ghost use Rattle.passkey_further_client.specs.Mediated.{mediated_options};
 
 use crate::CredentialMediationRequirement;
+use passkey_bytes::Text;
 use passkey_json::{EncodeResult, JsonEncoder, JsonFault, Member, PlainJsonRecord, Row};
 use std::alloc::Global;
 
@@ -15,19 +16,27 @@ pub struct MediatedOptions<O: PlainJsonRecord> {
     /// mediation: how far the client may ask the user. `None` means that the member is absent, and
     /// so `optional`; null also decodes to `None`.
     pub mediation: Option<CredentialMediationRequirement>,
+    /// uiMode: how the client asks the user, such as `immediate`, in Chromium. Any name is kept. `None`
+    /// means that the member is absent; null also decodes to `None`.
+    pub ui_mode: Option<Text>,
 }
 
 impl<O: PlainJsonRecord> PlainJsonRecord for MediatedOptions<O> {
     ghost table = { mediated_options O.table };
 
     fn rows() -> &'static [Row] {
-        &[Row::Named(1, "publicKey"), Row::Named(2, "mediation")]
+        &[
+            Row::Named(1, "publicKey"),
+            Row::Named(2, "mediation"),
+            Row::Named(3, "uiMode"),
+        ]
     }
 
     fn blank(alloc: Global) -> MediatedOptions<O> {
         MediatedOptions {
             public_key: O::blank(alloc),
             mediation: None,
+            ui_mode: None,
         }
     }
 
@@ -35,6 +44,7 @@ impl<O: PlainJsonRecord> PlainJsonRecord for MediatedOptions<O> {
         match number {
             1 => self.public_key = member.required()?,
             2 => self.mediation = member.or_default(None)?,
+            3 => self.ui_mode = member.or_default(None)?,
             _ => {}
         }
         Ok(())
@@ -44,6 +54,7 @@ impl<O: PlainJsonRecord> PlainJsonRecord for MediatedOptions<O> {
         match number {
             1 => encoder.value(&self.public_key),
             2 => encoder.optional(&self.mediation),
+            3 => encoder.optional(&self.ui_mode),
             _ => Ok(None),
         }
     }

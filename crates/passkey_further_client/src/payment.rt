@@ -1,12 +1,12 @@
 //! Inputs and outputs of the client extension payment (W3C Secure Payment Confirmation).
 ghost use Rattle.std.specs.Prelude.{◌≡◌, IfOk};
-ghost use Rattle.passkey_further_client.specs.Payment.{browser_bound_signature, currency_amount, payment_inputs, payment_instrument, payment_outputs};
+ghost use Rattle.passkey_further_client.specs.Payment.{browser_bound_signature, currency_amount, payment_entity_logo, payment_inputs, payment_instrument, payment_outputs};
 
 use passkey_bytes::{Bytes, List, Text};
 use passkey_json::{EncodeResult, JsonEncoder, JsonFault, Member, PlainJsonRecord, Row};
 use passkey_memory::OutOfMemory;
 use passkey_webauthn::PublicKeyCredentialParameters;
-use std::alloc::Global;
+use std::alloc::{AllocError, Global};
 
 /// An amount of money, `PaymentCurrencyAmount` (W3C Payment Request API). Nothing is checked of either
 /// text.
@@ -85,17 +85,69 @@ impl PaymentCredentialInstrument {
             display_name: self.display_name.try_clone(alloc)?,
             icon: self.icon.try_clone(alloc)?,
             icon_must_be_shown: self.icon_must_be_shown,
-            details: copy_of(alloc, &self.details)?,
+            details: copy_of(&self.details)?,
         })
     }
 }
 
-/// Returns an equal text, if there is one.
-pub(crate) fn copy_of(alloc: Global, text: &Option<Text>) -> Result<Option<Text>, OutOfMemory>
-    ensures { IfOk result (λ copy. copy ≡ text.now) }
+/// A logo that is shown beside a payment, `PaymentEntityLogo` (W3C Secure Payment Confirmation).
+#[derive(Debug, Drop)]
+pub struct PaymentEntityLogo {
+    /// url: where the logo is. The URL isn't checked.
+    pub url: Text,
+    /// label: what it says, for those who don't see it.
+    pub label: Text,
+}
+
+impl Clone for PaymentEntityLogo {
+    ghost is_clone = { λ logo copy. copy ≡ logo };
+
+    fn clone(&self) -> Result<PaymentEntityLogo, AllocError> {
+        Ok(PaymentEntityLogo {
+            url: self.url.clone()?,
+            label: self.label.clone()?,
+        })
+    }
+}
+
+impl PlainJsonRecord for PaymentEntityLogo {
+    ghost table = { payment_entity_logo };
+
+    fn rows() -> &'static [Row] {
+        &[Row::Named(1, "url"), Row::Named(2, "label")]
+    }
+
+    fn blank(alloc: Global) -> PaymentEntityLogo {
+        PaymentEntityLogo {
+            url: Text::empty(alloc),
+            label: Text::empty(alloc),
+        }
+    }
+
+    fn put(&mut self, number: u8, member: Member<'_>) -> Result<(), JsonFault> {
+        match number {
+            1 => self.url = member.required()?,
+            2 => self.label = member.required()?,
+            _ => {}
+        }
+        Ok(())
+    }
+
+    fn encode(&self, number: u8, encoder: JsonEncoder) -> EncodeResult {
+        match number {
+            1 => encoder.value(&self.url),
+            2 => encoder.value(&self.label),
+            _ => Ok(None),
+        }
+    }
+}
+
+/// Returns an equal value, if there is one.
+pub(crate) fn copy_of<T: Clone>(value: &Option<T>) -> Result<Option<T>, OutOfMemory>
+    ensures { ((x y : T) → T.is_clone x y → y ≡ x) → IfOk result (λ copy. copy ≡ value.now) }
 {
-    match text {
-        Some(text) => Ok(Some(text.try_clone(alloc)?)),
+    match value {
+        Some(value) => Ok(Some(value.clone()?)),
         None => Ok(None),
     }
 }
@@ -164,6 +216,8 @@ pub struct PaymentInputs {
     /// browserBoundPubKeyCredParams: the algorithms of a key that stays in the browser. Elements that
     /// are no parameters are dropped, and a value that is no array decodes to `None`.
     pub browser_bound_pub_key_cred_params: Option<List<PublicKeyCredentialParameters>>,
+    /// paymentEntitiesLogos: the logos that are to be shown, at a sign-in.
+    pub payment_entities_logos: Option<List<PaymentEntityLogo>>,
 }
 
 impl PlainJsonRecord for PaymentInputs {
@@ -179,6 +233,7 @@ impl PlainJsonRecord for PaymentInputs {
             Row::Named(6, "total"),
             Row::Named(7, "instrument"),
             Row::Named(8, "browserBoundPubKeyCredParams"),
+            Row::Named(9, "paymentEntitiesLogos"),
         ]
     }
 
@@ -192,6 +247,7 @@ impl PlainJsonRecord for PaymentInputs {
             total: None,
             instrument: None,
             browser_bound_pub_key_cred_params: None,
+            payment_entities_logos: None,
         }
     }
 
@@ -205,6 +261,7 @@ impl PlainJsonRecord for PaymentInputs {
             6 => self.total = member.or_default(None)?,
             7 => self.instrument = member.or_default(None)?,
             8 => self.browser_bound_pub_key_cred_params = member.accepted_list()?,
+            9 => self.payment_entities_logos = member.or_default(None)?,
             _ => {}
         }
         Ok(())
@@ -220,6 +277,7 @@ impl PlainJsonRecord for PaymentInputs {
             6 => encoder.optional(&self.total),
             7 => encoder.optional(&self.instrument),
             8 => encoder.optional(&self.browser_bound_pub_key_cred_params),
+            9 => encoder.optional(&self.payment_entities_logos),
             _ => Ok(None),
         }
     }

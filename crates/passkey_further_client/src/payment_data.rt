@@ -1,17 +1,18 @@
 //! The payment that the user confirmed, a further member of client data.
-ghost use Rattle.passkey_further_client.specs.PaymentData.{additional_payment_data, is_payment, payment_members, payment_members_are_extra};
+ghost use Rattle.passkey_further_client.specs.PaymentData.{additional_payment_data, is_creation, is_payment, payment_in, payment_members, payment_members_are_extra, payment_takes, registration_payment_data};
 ghost use Rattle.std.specs.Prelude.{◌≡◌, IfOk};
 
-use crate::payment::{PaymentCredentialInstrument, PaymentCurrencyAmount, copy_of};
-use passkey_bytes::Text;
-use passkey_client_data::ClientDataExtra;
+use crate::payment::{
+    PaymentCredentialInstrument, PaymentCurrencyAmount, PaymentEntityLogo, copy_of,
+};
+use passkey_bytes::{Bytes, List, Text};
+use passkey_client_data::{ClientDataExtra, ClientDataType};
 use passkey_json::{
     BytesForm, EncodeResult, JsonEncoder, JsonFault, Member, Object, PlainJsonRecord, Row, ToJson,
 };
 use passkey_memory::OutOfMemory;
 use serde_json::Value;
 use std::alloc::Global;
-use std::marker::Model;
 
 /// The payment that the user confirmed, `CollectedClientAdditionalPaymentData` (W3C Secure Payment
 /// Confirmation). `None` means that the member is absent; null also decodes to `None`.
@@ -29,6 +30,10 @@ pub struct AdditionalPaymentData {
     pub total: PaymentCurrencyAmount,
     /// instrument: what the user pays with, as it was shown.
     pub instrument: PaymentCredentialInstrument,
+    /// paymentEntitiesLogos: the logos that were shown.
+    pub payment_entities_logos: Option<List<PaymentEntityLogo>>,
+    /// browserBoundPublicKey: the COSE key whose signature is `browserBoundSignature` of the outputs.
+    pub browser_bound_public_key: Option<Bytes>,
 }
 
 impl AdditionalPaymentData {
@@ -39,10 +44,12 @@ impl AdditionalPaymentData {
         Ok(AdditionalPaymentData {
             rp_id: self.rp_id.try_clone(alloc)?,
             top_origin: self.top_origin.try_clone(alloc)?,
-            payee_name: copy_of(alloc, &self.payee_name)?,
-            payee_origin: copy_of(alloc, &self.payee_origin)?,
+            payee_name: copy_of(&self.payee_name)?,
+            payee_origin: copy_of(&self.payee_origin)?,
             total: self.total.try_clone(alloc)?,
             instrument: self.instrument.try_clone(alloc)?,
+            payment_entities_logos: copy_of(&self.payment_entities_logos)?,
+            browser_bound_public_key: copy_of(&self.browser_bound_public_key)?,
         })
     }
 }
@@ -58,6 +65,8 @@ impl PlainJsonRecord for AdditionalPaymentData {
             Row::Named(4, "payeeOrigin"),
             Row::Named(5, "total"),
             Row::Named(6, "instrument"),
+            Row::Named(7, "paymentEntitiesLogos"),
+            Row::Named(8, "browserBoundPublicKey"),
         ]
     }
 
@@ -69,6 +78,8 @@ impl PlainJsonRecord for AdditionalPaymentData {
             payee_origin: None,
             total: PaymentCurrencyAmount::blank(alloc),
             instrument: PaymentCredentialInstrument::blank(alloc),
+            payment_entities_logos: None,
+            browser_bound_public_key: None,
         }
     }
 
@@ -80,6 +91,8 @@ impl PlainJsonRecord for AdditionalPaymentData {
             4 => self.payee_origin = member.or_default(None)?,
             5 => self.total = member.required()?,
             6 => self.instrument = member.required()?,
+            7 => self.payment_entities_logos = member.or_default(None)?,
+            8 => self.browser_bound_public_key = member.or_default(None)?,
             _ => {}
         }
         Ok(())
@@ -93,35 +106,73 @@ impl PlainJsonRecord for AdditionalPaymentData {
             4 => encoder.optional(&self.payee_origin),
             5 => encoder.value(&self.total),
             6 => encoder.value(&self.instrument),
+            7 => encoder.optional(&self.payment_entities_logos),
+            8 => encoder.optional(&self.browser_bound_public_key),
             _ => Ok(None),
         }
     }
 }
 
-/// `payment` of client data of the type `payment.get`: what the user confirmed (W3C Secure Payment
-/// Confirmation). `None` means that the member is absent.
+/// What client data say of a payment at a registration,
+/// `CollectedClientAdditionalPaymentRegistrationData` (W3C Secure Payment Confirmation). `None` means
+/// that the member is absent; null also decodes to `None`.
 #[derive(Debug, Drop)]
-pub struct PaymentData(pub Option<AdditionalPaymentData>);
+pub struct RegistrationPaymentData {
+    /// browserBoundPublicKey: the COSE key that stays in the browser.
+    pub browser_bound_public_key: Option<Bytes>,
+}
 
-impl Model for PaymentData {
-    ghost use Rattle.std.specs.Prelude.{Option};
-    ghost use Rattle.passkey_further_client.specs.declared.payment_data.AdditionalPaymentData.{AdditionalPaymentData};
+impl PlainJsonRecord for RegistrationPaymentData {
+    ghost table = { registration_payment_data };
 
-    ghost Value = { Option AdditionalPaymentData };
+    fn rows() -> &'static [Row] {
+        &[Row::Named(1, "browserBoundPublicKey")]
+    }
 
-    ghost view = { λ payment. payment.0 };
+    fn blank(_alloc: Global) -> RegistrationPaymentData {
+        RegistrationPaymentData {
+            browser_bound_public_key: None,
+        }
+    }
+
+    fn put(&mut self, number: u8, member: Member<'_>) -> Result<(), JsonFault> {
+        if number == 1 {
+            self.browser_bound_public_key = member.or_default(None)?;
+        }
+        Ok(())
+    }
+
+    fn encode(&self, number: u8, encoder: JsonEncoder) -> EncodeResult {
+        match number {
+            1 => encoder.optional(&self.browser_bound_public_key),
+            _ => Ok(None),
+        }
+    }
+}
+
+/// `payment` of client data (W3C Secure Payment Confirmation), by the client data's type.
+#[derive(Debug, Drop)]
+pub enum PaymentData {
+    /// The member is absent.
+    Absent,
+    /// Of the type `webauthn.create`.
+    Registration(RegistrationPaymentData),
+    /// Of the other types: what the user confirmed.
+    Confirmed(AdditionalPaymentData),
+}
+
+fn is_creation(ty: Option<ClientDataType>) -> bool
+    ensures { result ≡ is_creation ty }
+{
+    matches!(ty, Some(ClientDataType::Create))
 }
 
 impl ClientDataExtra for PaymentData {
-    ghost use Rattle.std.specs.Prelude.{codes};
-    ghost use Rattle.passkey_json.specs.Members.{if_present, member, takes_at};
-    ghost use Rattle.passkey_json.specs.Table.{nested};
-
     ghost has = { is_payment };
 
-    ghost reads = { λ object. if_present (nested additional_payment_data).kind (member (codes "payment") object) };
+    ghost reads = { payment_in };
 
-    ghost takes = { λ object. takes_at (nested additional_payment_data).takes (object (codes "payment")) };
+    ghost takes = { payment_takes };
 
     ghost written = { payment_members };
 
@@ -131,24 +182,45 @@ impl ClientDataExtra for PaymentData {
 
     #[tactic(auto, unfolding(passkey_json::specs::Members::if_present))]
     fn from_object(object: &Object<'_>) -> Result<PaymentData, JsonFault> {
-        Ok(PaymentData(object.member("payment").if_present()?))
+        let payment = object.member("payment");
+        if is_creation(object.member("type").if_present()?) {
+            Ok(match payment.if_present()? {
+                Some(payment) => PaymentData::Registration(payment),
+                None => PaymentData::Absent,
+            })
+        } else {
+            Ok(match payment.if_present()? {
+                Some(payment) => PaymentData::Confirmed(payment),
+                None => PaymentData::Absent,
+            })
+        }
     }
 
     fn members(&self, alloc: Global) -> Result<Vec<(String, Value)>, OutOfMemory> {
         let mut members = Vec::new(alloc);
-        if let Some(payment) = &self.0 {
-            let value = payment.to_json(alloc, BytesForm::Base64Url)?;
-            members.push((String::from_str(alloc, "payment")?, value))?;
-        }
+        let value = match self {
+            PaymentData::Absent => return Ok(members),
+            PaymentData::Registration(payment) => payment.to_json(alloc, BytesForm::Base64Url)?,
+            PaymentData::Confirmed(payment) => payment.to_json(alloc, BytesForm::Base64Url)?,
+        };
+        members.push((String::from_str(alloc, "payment")?, value))?;
         Ok(members)
     }
 
     ghost members_are_extra = { payment_members_are_extra };
 
     fn try_clone(&self, alloc: Global) -> Result<PaymentData, OutOfMemory> {
-        match &self.0 {
-            Some(payment) => Ok(PaymentData(Some(payment.try_clone(alloc)?))),
-            None => Ok(PaymentData(None)),
+        match self {
+            PaymentData::Absent => Ok(PaymentData::Absent),
+            PaymentData::Registration(payment) => {
+                let key = copy_of(&payment.browser_bound_public_key)?;
+                Ok(PaymentData::Registration(RegistrationPaymentData {
+                    browser_bound_public_key: key,
+                }))
+            }
+            PaymentData::Confirmed(payment) => {
+                Ok(PaymentData::Confirmed(payment.try_clone(alloc)?))
+            }
         }
     }
 }

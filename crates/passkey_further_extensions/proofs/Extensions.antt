@@ -112,6 +112,7 @@ make_credential_outputs_law = lawful 2 make_credential_outputs (λ r. refl) (λ 
     puts_default (optional_place truth_back refl r.hmac_secret (anything r.hmac_secret)) refl ▸
     puts_default (optional_place word_back refl r.min_pin_length (search)) refl ▸
     puts_default (optional_place bytes_back refl r.hmac_secret_mc (anything r.hmac_secret_mc)) refl ▸
+    puts_default (optional_place truth_back refl r.pin_complexity_policy (anything r.pin_complexity_policy)) refl ▸
     no_more)
 
 pub make_credential_outputs_messages : AreMessages false make_credential_outputs (λ r. None)

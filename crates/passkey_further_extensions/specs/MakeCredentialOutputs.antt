@@ -15,6 +15,7 @@ make_credential_outputs = record {
     hmac_secret = None;
     min_pin_length = None;
     hmac_secret_mc = None;
+    pin_complexity_policy = None;
   };
   members = optional_as 1 (codes "uvm") (list_of (list_of word)) (λ r. r.uvm) (λ x r. record r { uvm = x })
       ∷ optional_as 2 (codes "credBlob") truth (λ r. r.cred_blob) (λ x r. record r { cred_blob = x })
@@ -23,6 +24,8 @@ make_credential_outputs = record {
       ∷ optional_as 4 (codes "hmac-secret") truth (λ r. r.hmac_secret) (λ x r. record r { hmac_secret = x })
       ∷ optional_as 5 (codes "minPinLength") word (λ r. r.min_pin_length) (λ x r. record r { min_pin_length = x })
       ∷ optional_as 6 (codes "hmac-secret-mc") bytes (λ r. r.hmac_secret_mc) (λ x r. record r { hmac_secret_mc = x })
+      ∷ optional_as 7 (codes "pinComplexityPolicy") truth (λ r. r.pin_complexity_policy)
+      (λ x r. record r { pin_complexity_policy = x })
       ∷ [];
 }
 

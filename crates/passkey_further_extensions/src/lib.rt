@@ -1,4 +1,4 @@
-//! Inputs and outputs of the registered extensions, as they are sent to authenticators and back.
+//! Inputs and outputs of extensions beyond the port's, as they are sent to authenticators and back.
 #![tactic(auto)]
 
 mod cred_protect;

@@ -2,6 +2,7 @@
 ghost use Rattle.passkey_inspect.specs.Prints.{IsMessageIn};
 
 use crate::kind::InspectKind;
+use crate::status_name::status_name;
 use passkey_catalogue::FurtherKind;
 use passkey_framing::{Command, request_of};
 use passkey_memory::OutOfMemory;
@@ -15,6 +16,8 @@ pub enum Frame {
     None,
     /// The status code of a response, CTAP2_OK.
     Success,
+    /// The status code of a response, with its name. Nothing is behind it.
+    Failure(u8, &'static str),
     /// The command of a request.
     Command(Command),
 }
@@ -29,7 +32,8 @@ fn is_body(bytes: &[u8]) -> bool {
 
 /// Returns what stands before a message, and lends the bytes behind it. It is a status code if the
 /// first byte is 0, or a command if it is one that the standard names; and no bytes, or a map, are
-/// behind it.
+/// behind it. A byte alone that isn't a command is a status code, if that has a name: it may be a
+/// data item, too, and is lent as one.
 pub fn frame_of(bytes: &[u8]) -> (Frame, &[u8])
     ensures { IsMessageIn bytes.now result.1.now }
 {
@@ -39,6 +43,10 @@ pub fn frame_of(bytes: &[u8]) -> (Frame, &[u8])
         }
     }
     match request_of(bytes) {
+        Some((Command::Other(byte), [])) => match status_name(byte) {
+            Some(name) => (Frame::Failure(byte, name), bytes),
+            None => (Frame::None, bytes),
+        },
         Some((Command::Other(_), _)) | None => (Frame::None, bytes),
         Some((command, body)) if is_body(body) => (Frame::Command(command), body),
         Some(_) => (Frame::None, bytes),
@@ -68,6 +76,7 @@ pub fn frame_text(alloc: Global, frame: Frame) -> Result<String, OutOfMemory> {
     match frame {
         Frame::None => Ok(String::new(alloc)),
         Frame::Success => Ok(String::from_str(alloc, "status byte: 00 (CTAP2_OK)\n")?),
+        Frame::Failure(byte, name) => Ok(format!(in alloc; "status byte: {byte:02x} ({name})\n")?),
         Frame::Command(command) => Ok(format!(in alloc; "command byte: {command:?}\n")?),
     }
 }

@@ -7,6 +7,7 @@ use crate::examine::{Contents, Examined, examine};
 use crate::fault::InspectFault;
 use crate::frame::{Frame, frame_of, frame_text, request_kind};
 use crate::kind::{CBOR, FOUND_KINDS, InspectKind, is_data_item, name_of};
+use crate::newer_members::newer_members_text;
 use crate::options::{Options, Output};
 use crate::records::print_record;
 use passkey_cbor::{CborError, Value};
@@ -164,6 +165,7 @@ fn push_report(
     contents: &Contents,
 ) -> Result<(), OutOfMemory> {
     text.push_str(report_of(alloc, name_of(kind), &contents.description)?.as_str())?;
+    text.push_str(newer_members_text(alloc, kind, &contents.description)?.as_str())?;
     Ok(text.push_str(contents.left_out.as_str())?)
 }
 
@@ -273,13 +275,25 @@ fn report_found(
     Ok(text)
 }
 
+/// Returns whether there is a status code or a command and no message.
+fn is_frame_alone(body: &Body<'_>) -> bool {
+    match body.frame {
+        Frame::None => false,
+        Frame::Failure(..) => true,
+        Frame::Success | Frame::Command(_) => body.bytes.is_empty(),
+    }
+}
+
 /// Returns what is printed of a message of which the kind is to be found.
 fn print_found(alloc: Global, output: Output, body: &Body<'_>) -> Result<String, InspectFault>
     ensures { IfOk result (λ text. PrintsAs output body.now.bytes.now (string_bytes text)) }
 {
     let matches = matches_of(alloc, body.bytes)?;
     let Some((kind, contents)) = &matches.best else {
-        return print_as(alloc, output, body, CBOR);
+        return match output {
+            Output::Report if is_frame_alone(body) => Ok(heading(alloc, body)?),
+            _ => print_as(alloc, output, body, CBOR),
+        };
     };
     match output {
         Output::Report => Ok(report_found(alloc, body, &matches, *kind, contents)?),

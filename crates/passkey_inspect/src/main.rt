@@ -10,9 +10,11 @@ mod frame;
 mod inspect;
 mod kind;
 mod nearest;
+mod newer_members;
 mod options;
 mod records;
 mod refusal;
+mod status_name;
 mod structure;
 
 use fault::InspectFault;

@@ -8,8 +8,8 @@ use passkey_explain::{Description, FieldName};
 use passkey_kinds::Wanted;
 use passkey_memory::OutOfMemory;
 use passkey_tpm::{
-    CertInfo, ClockInfo, Curve, EccKey, EccScheme, HashAlgorithm, PubArea, PublicKey, RsaKey,
-    RsaScheme,
+    CertInfo, ClockInfo, Curve, EccKey, EccScheme, HashAlgorithm, KdfScheme, PubArea, PublicKey,
+    RsaKey, RsaScheme,
 };
 use std::alloc::Global;
 
@@ -52,6 +52,19 @@ impl Fields {
         self.push(name, Description::Leaf(Wanted::Boolean, Value::Bool(truth)))
     }
 
+    /// The name that the standard has for the number, or the number.
+    fn named(&mut self, name: &'static str, word: &str, number: u16) -> Result<(), OutOfMemory> {
+        if word.is_empty() {
+            self.number(name, u64::from(number))
+        } else {
+            self.word(name, word)
+        }
+    }
+
+    fn hash(&mut self, name: &'static str, hash: HashAlgorithm) -> Result<(), OutOfMemory> {
+        self.named(name, hash_name(hash), hash.0)
+    }
+
     fn done(self) -> Description {
         Description::Record(self.fields)
     }
@@ -59,10 +72,16 @@ impl Fields {
 
 fn hash_name(hash: HashAlgorithm) -> &'static str {
     match hash {
-        HashAlgorithm::Sha1 => "SHA1",
-        HashAlgorithm::Sha256 => "SHA256",
-        HashAlgorithm::Sha384 => "SHA384",
-        HashAlgorithm::Sha512 => "SHA512",
+        HashAlgorithm::SHA1 => "SHA1",
+        HashAlgorithm::SHA256 => "SHA256",
+        HashAlgorithm::SHA384 => "SHA384",
+        HashAlgorithm::SHA512 => "SHA512",
+        HashAlgorithm::NULL => "NULL",
+        HashAlgorithm::SM3_256 => "SM3_256",
+        HashAlgorithm::SHA3_256 => "SHA3_256",
+        HashAlgorithm::SHA3_384 => "SHA3_384",
+        HashAlgorithm::SHA3_512 => "SHA3_512",
+        _ => "",
     }
 }
 
@@ -71,7 +90,11 @@ fn describe_clock(alloc: Global, clock: &ClockInfo) -> Result<Description, OutOf
     fields.number("clock", clock.clock)?;
     fields.number("resetCount", u64::from(clock.reset_count))?;
     fields.number("restartCount", u64::from(clock.restart_count))?;
-    fields.truth("safe", clock.safe)?;
+    match clock.safe {
+        0 => fields.truth("safe", false)?,
+        1 => fields.truth("safe", true)?,
+        other => fields.number("safe", u64::from(other))?,
+    }
     Ok(fields.done())
 }
 
@@ -94,7 +117,7 @@ fn push_scheme(
 ) -> Result<(), OutOfMemory> {
     fields.word("scheme", name)?;
     match hash {
-        Some(hash) => fields.word("hashAlg", hash_name(hash)),
+        Some(hash) => fields.hash("hashAlg", hash),
         None => Ok(()),
     }
 }
@@ -113,14 +136,42 @@ fn ecc_scheme(scheme: EccScheme) -> (&'static str, Option<HashAlgorithm>) {
     match scheme {
         EccScheme::Null => ("NULL", None),
         EccScheme::Ecdsa(hash) => ("ECDSA", Some(hash)),
+        EccScheme::Ecdh(hash) => ("ECDH", Some(hash)),
+        EccScheme::Ecdaa(hash, _) => ("ECDAA", Some(hash)),
+        EccScheme::Sm2(hash) => ("SM2", Some(hash)),
+        EccScheme::EcSchnorr(hash) => ("ECSCHNORR", Some(hash)),
+        EccScheme::EcMqv(hash) => ("ECMQV", Some(hash)),
     }
+}
+
+fn kdf_scheme(scheme: KdfScheme) -> (&'static str, Option<HashAlgorithm>) {
+    match scheme {
+        KdfScheme::Null => ("NULL", None),
+        KdfScheme::Mgf1(hash) => ("MGF1", Some(hash)),
+        KdfScheme::Kdf1Sp80056a(hash) => ("KDF1_SP800_56A", Some(hash)),
+        KdfScheme::Kdf2(hash) => ("KDF2", Some(hash)),
+        KdfScheme::Kdf1Sp800108(hash) => ("KDF1_SP800_108", Some(hash)),
+    }
+}
+
+fn describe_kdf(alloc: Global, kdf: KdfScheme) -> Result<Description, OutOfMemory> {
+    let (name, hash) = kdf_scheme(kdf);
+    let mut fields = Fields::new(alloc);
+    push_scheme(&mut fields, name, hash)?;
+    Ok(fields.done())
 }
 
 fn curve_name(curve: Curve) -> &'static str {
     match curve {
+        Curve::P192 => "NIST_P192",
+        Curve::P224 => "NIST_P224",
         Curve::P256 => "NIST_P256",
         Curve::P384 => "NIST_P384",
         Curve::P521 => "NIST_P521",
+        Curve::BN_P256 => "BN_P256",
+        Curve::BN_P638 => "BN_P638",
+        Curve::SM2_P256 => "SM2_P256",
+        _ => "",
     }
 }
 
@@ -135,7 +186,14 @@ fn push_rsa(fields: &mut Fields, key: &RsaKey<'_>) -> Result<(), OutOfMemory> {
 fn push_ecc(fields: &mut Fields, key: &EccKey<'_>) -> Result<(), OutOfMemory> {
     let (name, hash) = ecc_scheme(key.scheme);
     push_scheme(fields, name, hash)?;
-    fields.word("curveID", curve_name(key.curve))?;
+    if let EccScheme::Ecdaa(_, count) = key.scheme {
+        fields.number("count", u64::from(count))?;
+    }
+    fields.named("curveID", curve_name(key.curve), key.curve.0)?;
+    if key.kdf != KdfScheme::Null {
+        let kdf = describe_kdf(fields.alloc, key.kdf)?;
+        fields.push("kdf", kdf)?;
+    }
     fields.bytes("x", key.x)?;
     fields.bytes("y", key.y)
 }
@@ -147,7 +205,7 @@ fn describe_pub_area(alloc: Global, area: &PubArea<'_>) -> Result<Description, O
         PublicKey::Ecc(_) => "ECC",
     };
     fields.word("type", kind)?;
-    fields.word("nameAlg", hash_name(area.name_alg))?;
+    fields.hash("nameAlg", area.name_alg)?;
     fields.number("objectAttributes", u64::from(area.object_attributes))?;
     fields.bytes("authPolicy", area.auth_policy)?;
     match &area.key {

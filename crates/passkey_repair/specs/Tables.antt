@@ -1,7 +1,8 @@
 -- The edits of each message that is repaired.
 use Rattle.passkey_cbor.specs.Item.{Item, array, boolean, map, no_items, no_pairs, null, number, text_string}
-use Rattle.passkey_repair.specs.Edit.{Edit, add, leave_out, replace}
-use Rattle.passkey_repair.specs.declared.deviation.Deviation.TheVariants.{AbsentName, EmptyArrayAsText, EmptyPrf, NullName, PrfWithoutEnabled}
+use Rattle.passkey_repair.specs.Edit.{Change, Edit, add, leave_out, replace}
+use Rattle.passkey_repair.specs.declared.deviation.Deviation.{Deviation}
+use Rattle.passkey_repair.specs.declared.deviation.Deviation.TheVariants.{AbsentName, EmptyArrayAsText, EmptyPrf, NullEnabled, NullName, PrfWithoutEnabled}
 use Rattle.std.specs.Prelude.{List, [], codes, pos, true, ℕ, ◌++◌, ◌∷◌}
 
 abbrev pub empty_text : Item
@@ -45,18 +46,25 @@ make_request_edits =
     ∷ array_text (numbered 2 ∷ []) (codes "name")
     ∷ []
 
+-- outputs of prf without results
+abbrev empty_prf : List Item → Edit
+empty_prf path = record { deviation = EmptyPrf; path = path; change = leave_out (codes "prf") (map no_pairs) }
+
+abbrev prf_edit : Deviation → Change → Edit
+prf_edit deviation change =
+    record { deviation = deviation; path = numbered 6 ∷ named (codes "prf") ∷ []; change = change }
+
 -- the results show that prf is enabled
 abbrev pub make_response_edits : List Edit
-make_response_edits = record {
-  deviation = PrfWithoutEnabled;
-  path = numbered 6 ∷ named (codes "prf") ∷ [];
-  change = add (codes "enabled") (codes "results") (boolean true);
-} ∷ []
+make_response_edits = prf_edit NullEnabled (leave_out (codes "enabled") null)
+    ∷ prf_edit PrfWithoutEnabled (add (codes "enabled") (codes "results") (boolean true))
+    ∷ empty_prf (numbered 6 ∷ [])
+    ∷ []
 
 abbrev pub get_response_edits : List Edit
 get_response_edits = array_text (numbered 4 ∷ []) (codes "name")
     ∷ array_text (numbered 4 ∷ []) (codes "displayName")
-    ∷ record { deviation = EmptyPrf; path = numbered 8 ∷ []; change = leave_out (codes "prf") (map no_pairs) }
+    ∷ empty_prf (numbered 8 ∷ [])
     ∷ []
 
 abbrev pub credential_request_edits : List Edit

@@ -21,7 +21,10 @@ pub enum Deviation {
     /// Outputs of the extension prf at a registration that have `results` and no `enabled`. Chrome
     /// reads them (WebAuthn Level 3, section 10.1.4).
     PrfWithoutEnabled,
-    /// Outputs of the extension prf at an assertion that have no `results`. Chrome reads them
+    /// Outputs of the extension prf at a registration with null for `enabled`, as serializers write
+    /// what has no value. WebAuthn makes it a boolean (WebAuthn Level 3, section 10.1.4).
+    NullEnabled,
+    /// Outputs of the extension prf that have neither `enabled` nor `results`. Chrome reads them
     /// (WebAuthn Level 3, section 10.1.4).
     EmptyPrf,
 }
@@ -33,6 +36,7 @@ impl fmt::Display for Deviation {
             Deviation::NullName => "null for a user's name, as Firefox writes it",
             Deviation::EmptyArrayAsText => "an array for an empty text, as python-fido2 writes it",
             Deviation::PrfWithoutEnabled => "outputs of prf without enabled",
+            Deviation::NullEnabled => "null for enabled of prf",
             Deviation::EmptyPrf => "outputs of prf without results",
         })
     }

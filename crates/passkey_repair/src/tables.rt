@@ -52,13 +52,25 @@ impl Repairable for make_credential::Request {
     }
 }
 
-static MAKE_RESPONSE: [Repair; 1] = [Repair {
-    deviation: Deviation::PrfWithoutEnabled,
-    path: &[Key::Number(6, "unsignedExtensionOutputs"), Key::Name("prf")],
-    change: Change::Add("enabled", "results", Literal::True),
-}];
+static MAKE_RESPONSE: [Repair; 3] = [
+    Repair {
+        deviation: Deviation::NullEnabled,
+        path: &[Key::Number(6, "unsignedExtensionOutputs"), Key::Name("prf")],
+        change: Change::LeaveOut("enabled", Literal::Null),
+    },
+    Repair {
+        deviation: Deviation::PrfWithoutEnabled,
+        path: &[Key::Number(6, "unsignedExtensionOutputs"), Key::Name("prf")],
+        change: Change::Add("enabled", "results", Literal::True),
+    },
+    Repair {
+        deviation: Deviation::EmptyPrf,
+        path: &[Key::Number(6, "unsignedExtensionOutputs")],
+        change: Change::LeaveOut("prf", Literal::EmptyMap),
+    },
+];
 
-/// Results of prf without `enabled`.
+/// Results of prf without `enabled` or with null for it, and outputs of prf without results.
 impl Repairable for make_credential::Response {
     ghost edits = { make_response_edits };
 

@@ -114,7 +114,7 @@ if_absent None other = other
 -- how the member with this name of an object changes, if it deviates so
 abbrev pub change_for : Deviation → List ℕ → Data → Option Change
 change_for deviation.NullMember name d = if is_null_member (get name d) then Some leave_out else None
-change_for deviation.NoDisplayName name d = become_if (is_absent_or_null (get name d)) no_text
+change_for deviation.NoName name d = become_if (is_absent_or_null (get name d)) no_text
 change_for deviation.EmptyArray name d = become_if (is_empty_array_member (get name d)) no_text
 change_for deviation.WholeFloat name d = integer_for (get name d)
 change_for deviation.UnknownTransport name d = without_unknown_in (get name d)

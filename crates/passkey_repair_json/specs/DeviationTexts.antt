@@ -5,7 +5,7 @@ use Rattle.passkey_repair_json.specs.declared.deviation.Deviation.TheVariants as
 
 abbrev pub deviation_text : Deviation → List ℕ
 deviation_text deviation.NullMember = codes "null, left out"
-deviation_text deviation.NoDisplayName = codes "absent or null, read as an empty text"
+deviation_text deviation.NoName = codes "absent or null, read as an empty text"
 deviation_text deviation.EmptyArray = codes "an empty array, read as an empty text"
 deviation_text deviation.WholeFloat = codes "a float with a whole value, read as an integer"
 deviation_text deviation.UnknownTransport = codes "unknown transports, left out"

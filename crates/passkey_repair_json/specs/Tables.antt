@@ -2,7 +2,7 @@
 use Rattle.std.specs.Prelude.{ℕ, List, [], ◌∷◌, codes}
 use Rattle.passkey_repair_json.specs.Edits.{Edit}
 use Rattle.passkey_repair_json.specs.declared.deviation.Deviation.{Deviation}
-use Rattle.passkey_repair_json.specs.declared.deviation.Deviation.TheVariants.{NullMember, NoDisplayName, EmptyArray, WholeFloat, UnknownTransport, NullOutputs, RenamedOutputs, NoAuthenticatorData, NoKeyAlgorithm}
+use Rattle.passkey_repair_json.specs.declared.deviation.Deviation.TheVariants.{NullMember, NoName, EmptyArray, WholeFloat, UnknownTransport, NullOutputs, RenamedOutputs, NoAuthenticatorData, NoKeyAlgorithm}
 
 abbrev at : Deviation → List (List ℕ) → List ℕ → Edit
 at deviation within member = record { deviation = deviation; within = within; member = member }
@@ -19,7 +19,9 @@ abbrev pub creation_edits : List Edit
 creation_edits = at NullMember options (codes "timeout")
     ∷ at WholeFloat options (codes "timeout")
     ∷ at NullMember (inside (codes "authenticatorSelection")) (codes "requireResidentKey")
-    ∷ at NoDisplayName (inside (codes "user")) (codes "displayName")
+    ∷ at NoName (inside (codes "user")) (codes "displayName")
+    ∷ at NoName (inside (codes "user")) (codes "name")
+    ∷ at NoName (inside (codes "rp")) (codes "name")
     ∷ at EmptyArray (inside (codes "user")) (codes "displayName")
     ∷ at EmptyArray (inside (codes "user")) (codes "name")
     ∷ at EmptyArray (inside (codes "rp")) (codes "name")
@@ -36,7 +38,9 @@ response = codes "response" ∷ []
 
 -- a new credential
 abbrev pub registration_edits : List Edit
-registration_edits = at NoAuthenticatorData response (codes "authenticatorData")
+registration_edits = at NullMember response (codes "authenticatorData")
+    ∷ at NullMember response (codes "publicKeyAlgorithm")
+    ∷ at NoAuthenticatorData response (codes "authenticatorData")
     ∷ at NoKeyAlgorithm response (codes "publicKeyAlgorithm")
     ∷ at WholeFloat response (codes "publicKeyAlgorithm")
     ∷ at UnknownTransport response (codes "transports")

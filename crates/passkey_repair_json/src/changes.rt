@@ -172,7 +172,7 @@ pub(crate) fn change_for(
     let attestation = object.get("attestationObject");
     match deviation {
         Deviation::NullMember => Ok(leave_out_if(is_null_member(member))),
-        Deviation::NoDisplayName => Ok(empty_text_if(alloc, is_absent_or_null(member))),
+        Deviation::NoName => Ok(empty_text_if(alloc, is_absent_or_null(member))),
         Deviation::EmptyArray => Ok(empty_text_if(alloc, is_empty_array_member(member))),
         Deviation::WholeFloat => Ok(integer_for(member)),
         Deviation::UnknownTransport => without_unknown(alloc, member),

@@ -12,6 +12,16 @@ impl PartRepairs for AuthenticatorAttestationResponse {
     fn repairs_around() -> &'static [Repair] {
         &[
             Repair {
+                deviation: Deviation::NullMember,
+                within: &["response"],
+                member: "authenticatorData",
+            },
+            Repair {
+                deviation: Deviation::NullMember,
+                within: &["response"],
+                member: "publicKeyAlgorithm",
+            },
+            Repair {
                 deviation: Deviation::NoAuthenticatorData,
                 within: &["response"],
                 member: "authenticatorData",

@@ -10,9 +10,10 @@ pub enum Deviation {
     /// An optional member is null. Servers send it whose serializer writes null for a member that
     /// has no value. The member is left out.
     NullMember,
-    /// A user's `displayName` is absent or null. WebAuthn Level 3, section 5.4.3, requires it, but
-    /// CTAP 2.1, section 6.1, doesn't, and servers leave it out. It becomes the empty text.
-    NoDisplayName,
+    /// A `name` or a user's `displayName` is absent or null. WebAuthn Level 3, sections 5.4.1 and
+    /// 5.4.3, requires them, but CTAP 2.1, section 6.1, doesn't, and servers leave them out. It
+    /// becomes the empty text.
+    NoName,
     /// A text is an empty array. python-fido2 1.2.0 and 2.2.1 write each empty text so. It becomes
     /// the empty text.
     EmptyArray,
@@ -27,12 +28,12 @@ pub enum Deviation {
     /// The client extension outputs are null, as the fake client of webauthn-ruby writes them. They
     /// become an empty object (WebAuthn Level 3, section 5.1).
     NullOutputs,
-    /// The client extension outputs are absent, and there is a member `extensions`, as older clients
-    /// of webauthn-rs name them. They become that member's value.
+    /// The client extension outputs are absent, and there is a member `extensions`, as webauthn-rs
+    /// names them. They become that member's value.
     RenamedOutputs,
     /// A registration's authenticator data are absent: browsers from before WebAuthn Level 3, and
     /// libraries for them, send the attestation object alone. They are taken from it (WebAuthn
-    /// Level 3, section 5.2.1.1).
+    /// Level 3, section 5.2.1.1). A null is left out before.
     NoAuthenticatorData,
     /// The algorithm of a registration's key is absent, in the same answers. It is taken from the
     /// attestation object, where it is the key's parameter `alg` (RFC 9052, section 7.1).
@@ -46,7 +47,7 @@ impl fmt::Display for Deviation {
     fn fmt<W: fmt::Write>(&self, f: &mut fmt::Formatter<W>) -> fmt::Result {
         f.write_str(match self {
             Deviation::NullMember => "null, left out",
-            Deviation::NoDisplayName => "absent or null, read as an empty text",
+            Deviation::NoName => "absent or null, read as an empty text",
             Deviation::EmptyArray => "an empty array, read as an empty text",
             Deviation::WholeFloat => "a float with a whole value, read as an integer",
             Deviation::UnknownTransport => "unknown transports, left out",

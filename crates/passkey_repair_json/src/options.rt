@@ -27,9 +27,19 @@ impl PartRepairs for PublicKeyCredentialCreationOptions {
                 member: "requireResidentKey",
             },
             Repair {
-                deviation: Deviation::NoDisplayName,
+                deviation: Deviation::NoName,
                 within: &["publicKey", "user"],
                 member: "displayName",
+            },
+            Repair {
+                deviation: Deviation::NoName,
+                within: &["publicKey", "user"],
+                member: "name",
+            },
+            Repair {
+                deviation: Deviation::NoName,
+                within: &["publicKey", "rp"],
+                member: "name",
             },
             Repair {
                 deviation: Deviation::EmptyArray,

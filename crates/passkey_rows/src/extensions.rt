@@ -73,10 +73,14 @@ pub fn extensions_row(
         >(alloc, tries, 8, input)),
         "put-mc-inputs" => Some(put_back::<make_credential::Request>(alloc, 6, input)),
         "put-ga-inputs" => Some(put_back::<get_assertion::Request>(alloc, 4, input)),
+        "put-mc-outputs" => Some(put_back::<make_credential::Response>(alloc, 6, input)),
+        "put-ga-outputs" => Some(put_back::<get_assertion::Response>(alloc, 8, input)),
         "whole-mc-inputs" => Some(whole::<made::ExtensionInputs>(alloc, input)),
         "whole-ga-inputs" => Some(whole::<used::ExtensionInputs>(alloc, input)),
         "whole-mc-outputs" => Some(whole::<made::SignedExtensionOutputs>(alloc, input)),
         "whole-ga-outputs" => Some(whole::<used::SignedExtensionOutputs>(alloc, input)),
+        "whole-mc-unsigned" => Some(whole::<made::UnsignedExtensionOutputs>(alloc, input)),
+        "whole-ga-unsigned" => Some(whole::<used::UnsignedExtensionOutputs>(alloc, input)),
         _ => None,
     }
 }

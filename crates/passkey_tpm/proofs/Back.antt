@@ -1,6 +1,6 @@
 -- certInfo and pubArea, when written, are read back.
 use Rattle.std.specs.Int.{Width, w16, w32, w64, from_be_bytes, to_be_bytes}
-use Rattle.std.proofs.Common.{◌≡◌, ◌∙◌, ℕ, ◌<◌, ◌^◌, nat_lt, List, [], ◌∷◌, ◌++◌, length, take, drop, Bool, true, false, Option, Some, refl, ap, subst, arith}
+use Rattle.std.proofs.Common.{◌≡◌, ◌∙◌, ℕ, ◌<◌, ◌^◌, nat_lt, List, [], ◌∷◌, ◌++◌, length, take, drop, false, Option, Some, refl, ap, subst, arith}
 use Rattle.std.proofs.Common.{lit<}
 use Rattle.std.proofs.lemmas.Bool.{cases_lt}
 use Rattle.std.proofs.lemmas.Bool.Decides.{nat_tests}
@@ -8,19 +8,19 @@ use Rattle.std.proofs.lemmas.List.{append-nil, length-append}
 use Rattle.std.proofs.lemmas.Nat.{from_be_bytes-to_be_bytes_2, from_be_bytes-to_be_bytes_4, from_be_bytes-to_be_bytes_8}
 use Rattle.std.proofs.Math.Seq.{take-append_seam, drop-append_seam}
 use Rattle.passkey_tpm.proofs.Appended.{cert_info_grouped, rsa_grouped, ecc_grouped, pub_area_grouped}
-use Rattle.passkey_tpm.specs.CertInfo.{CertInfoParts, magic, certify, header_at, yes_no_byte, yes_no_at, clock_info_at, cert_info_at, cert_info_in, cert_info_written, IsClockInfo, IsCertInfo}
-use Rattle.passkey_tpm.specs.HashAlgorithm.{hash_at}
+use Rattle.passkey_tpm.specs.CertInfo.{CertInfoParts, magic, certify, header_at, clock_info_at, cert_info_at, cert_info_in, cert_info_written, IsClockInfo, IsCertInfo}
+use Rattle.passkey_tpm.specs.HashAlgorithm.{hash_at, IsHash}
 use Rattle.passkey_tpm.specs.Parts.{◌>>=◌, bytes_at, number_at, u8_at, u16_at, u32_at, u64_at, sized_at}
-use Rattle.passkey_tpm.specs.PubArea.{KeyParts, RsaParts, EccParts, PubAreaParts, curve_id, curve_at, null_at, null_written, rsa_at, ecc_at, key_at, key_type, key_written, pub_area_at, pub_area_in, pub_area_written, IsRsa, IsEcc, IsKey, IsPubArea}
+use Rattle.passkey_tpm.specs.PubArea.{KeyParts, RsaParts, EccParts, PubAreaParts, curve_at, null_at, null_written, rsa_at, ecc_at, key_at, key_type, key_written, pub_area_at, pub_area_in, pub_area_written, IsRsa, IsEcc, IsKey, IsPubArea}
 use Rattle.passkey_tpm.specs.PubArea.KeyParts.{rsa, ecc}
-use Rattle.passkey_tpm.specs.Scheme.{hash_written, rsa_scheme_at, ecc_scheme_at, rsa_scheme_written, ecc_scheme_written}
+use Rattle.passkey_tpm.specs.Scheme.{hash_written, hashed, rsa_scheme_at, ecdaa_at, ecc_scheme_at, kdf_at, rsa_scheme_written, ecc_scheme_written, kdf_written, IsRsaScheme, IsEccScheme, IsKdf}
 use Rattle.passkey_tpm.specs.declared.cert_info.ClockInfo.{ClockInfo}
 use Rattle.passkey_tpm.specs.declared.hash_algorithm.HashAlgorithm.{HashAlgorithm}
-use Rattle.passkey_tpm.specs.declared.hash_algorithm.HashAlgorithm.TheVariants.{Sha1, Sha256, Sha384, Sha512}
 use Rattle.passkey_tpm.specs.declared.public_key.Curve.{Curve}
-use Rattle.passkey_tpm.specs.declared.public_key.Curve.TheVariants.{P256, P384, P521}
 use Rattle.passkey_tpm.specs.declared.scheme.EccScheme.{EccScheme}
 use Rattle.passkey_tpm.specs.declared.scheme.EccScheme.TheVariants as ecc_scheme
+use Rattle.passkey_tpm.specs.declared.scheme.KdfScheme.{KdfScheme}
+use Rattle.passkey_tpm.specs.declared.scheme.KdfScheme.TheVariants as kdf_scheme
 use Rattle.passkey_tpm.specs.declared.scheme.RsaScheme.{RsaScheme}
 use Rattle.passkey_tpm.specs.declared.scheme.RsaScheme.TheVariants as rsa_scheme
 
@@ -82,18 +82,13 @@ unfolding header_at
 header_back rest =
     after _ (u32_back magic (to_be_bytes w16 certify ++ rest) (lit< tt)) ∙ after _ (u16_back certify rest (lit< tt))
 
-yes_no_back : (b : Bool) (rest : List ℕ) → yes_no_at (yes_no_byte b ∷ rest) ≡ Some (b, rest)
-unfolding yes_no_at
-yes_no_back true rest = after _ (u8_back 1 rest)
-yes_no_back false rest = after _ (u8_back 0 rest)
-
 clock_info_back : (c : ClockInfo) (rest : List ℕ) → IsClockInfo c
     → clock_info_at (to_be_bytes w64 c.clock ++ (to_be_bytes w32 c.reset_count ++ (to_be_bytes w32 c.restart_count
-    ++ (yes_no_byte c.safe ∷ rest)))) ≡ Some (c, rest)
+    ++ (c.safe ∷ rest)))) ≡ Some (c, rest)
 unfolding clock_info_at
 clock_info_back c rest valid =
     after _ (u64_back c.clock _ valid.clock) ∙ after _ (u32_back c.reset_count _ valid.resets)
-    ∙ after _ (u32_back c.restart_count _ valid.restarts) ∙ after _ (yes_no_back c.safe rest)
+    ∙ after _ (u32_back c.restart_count _ valid.restarts) ∙ after _ (u8_back c.safe rest)
 
 cert_info_front : (c : CertInfoParts) (rest : List ℕ) → IsCertInfo c → cert_info_at (cert_info_written c ++ rest)
     ≡ Some (c, rest)
@@ -102,7 +97,7 @@ cert_info_front c rest valid =
     let clock = c.clock_info in
     let grouped = cert_info_grouped (to_be_bytes w32 magic) (to_be_bytes w16 certify) (size_of c.qualified_signer)
     c.qualified_signer (size_of c.extra_data) c.extra_data (to_be_bytes w64 clock.clock) (to_be_bytes w32
-    clock.reset_count) (to_be_bytes w32 clock.restart_count) (yes_no_byte clock.safe ∷ []) (to_be_bytes w64
+    clock.reset_count) (to_be_bytes w32 clock.restart_count) (clock.safe ∷ []) (to_be_bytes w64
     c.firmware_version) (size_of c.name) c.name (size_of c.qualified_name) c.qualified_name rest in
     ap cert_info_at grouped ∙ after _ (header_back _) ∙ after _ (sized_back c.qualified_signer _ valid.signer)
     ∙ after _ (sized_back c.extra_data _ valid.extra) ∙ after _ (clock_info_back clock _ valid.clock)
@@ -116,63 +111,94 @@ cert_info_back c valid =
 
 -- ---- pubArea
 
-hash_back : (h : HashAlgorithm) (rest : List ℕ) → hash_at (hash_written h ++ rest) ≡ Some (h, rest)
+hash_back : (h : HashAlgorithm) (rest : List ℕ) → IsHash h → hash_at (hash_written h ++ rest) ≡ Some (h, rest)
 unfolding hash_at
-hash_back Sha1 rest = after _ (u16_back 0x0004 rest (lit< tt))
-hash_back Sha256 rest = after _ (u16_back 0x000B rest (lit< tt))
-hash_back Sha384 rest = after _ (u16_back 0x000C rest (lit< tt))
-hash_back Sha512 rest = after _ (u16_back 0x000D rest (lit< tt))
+hash_back h rest fits = after _ (u16_back h.0 rest fits)
 
 null_back : (rest : List ℕ) → null_at (null_written ++ rest) ≡ Some rest
 unfolding null_at
 null_back rest = after _ (u16_back 0x0010 rest (lit< tt))
 
-curve_back : (curve : Curve) (rest : List ℕ) → curve_at (to_be_bytes w16 (curve_id curve) ++ rest) ≡ Some (curve, rest)
+curve_back : (curve : Curve) (rest : List ℕ) → curve.0 < 2 ^ 16
+    → curve_at (to_be_bytes w16 curve.0 ++ rest) ≡ Some (curve, rest)
 unfolding curve_at
-curve_back P256 rest = after _ (u16_back 0x0003 rest (lit< tt))
-curve_back P384 rest = after _ (u16_back 0x0004 rest (lit< tt))
-curve_back P521 rest = after _ (u16_back 0x0005 rest (lit< tt))
+curve_back curve rest fits = after _ (u16_back curve.0 rest fits)
 
-rsa_scheme_back : (s : RsaScheme) (rest : List ℕ) → rsa_scheme_at (rsa_scheme_written s ++ rest) ≡ Some (s, rest)
+-- a scheme's identifier, and its hash algorithm
+hashed_back : {S : Type 0} (make : HashAlgorithm → S) (h : HashAlgorithm) (rest : List ℕ) → IsHash h
+    → hashed make (hash_written h ++ rest) ≡ Some (make h, rest)
+hashed_back make h rest fits = after _ (hash_back h rest fits)
+
+rsa_scheme_back : (s : RsaScheme) (rest : List ℕ) → IsRsaScheme s
+    → rsa_scheme_at (rsa_scheme_written s ++ rest) ≡ Some (s, rest)
 unfolding rsa_scheme_at
-rsa_scheme_back rsa_scheme.Null rest = after _ (u16_back 0x0010 rest (lit< tt))
-rsa_scheme_back (rsa_scheme.RsaSsa h) rest =
-    after _ (u16_back 0x0014 (hash_written h ++ rest) (lit< tt)) ∙ after _ (hash_back h rest)
-rsa_scheme_back rsa_scheme.RsaEs rest = after _ (u16_back 0x0015 rest (lit< tt))
-rsa_scheme_back (rsa_scheme.RsaPss h) rest =
-    after _ (u16_back 0x0016 (hash_written h ++ rest) (lit< tt)) ∙ after _ (hash_back h rest)
-rsa_scheme_back (rsa_scheme.Oaep h) rest =
-    after _ (u16_back 0x0017 (hash_written h ++ rest) (lit< tt)) ∙ after _ (hash_back h rest)
+rsa_scheme_back rsa_scheme.Null rest fits = after _ (u16_back 0x0010 rest (lit< tt))
+rsa_scheme_back (rsa_scheme.RsaSsa h) rest fits =
+    after _ (u16_back 0x0014 (hash_written h ++ rest) (lit< tt)) ∙ hashed_back rsa_scheme.RsaSsa h rest fits
+rsa_scheme_back rsa_scheme.RsaEs rest fits = after _ (u16_back 0x0015 rest (lit< tt))
+rsa_scheme_back (rsa_scheme.RsaPss h) rest fits =
+    after _ (u16_back 0x0016 (hash_written h ++ rest) (lit< tt)) ∙ hashed_back rsa_scheme.RsaPss h rest fits
+rsa_scheme_back (rsa_scheme.Oaep h) rest fits =
+    after _ (u16_back 0x0017 (hash_written h ++ rest) (lit< tt)) ∙ hashed_back rsa_scheme.Oaep h rest fits
 
-ecc_scheme_back : (s : EccScheme) (rest : List ℕ) → ecc_scheme_at (ecc_scheme_written s ++ rest) ≡ Some (s, rest)
+ecdaa_back : (h : HashAlgorithm) (count : ℕ) (rest : List ℕ) → IsHash h → count < 2 ^ 16
+    → ecdaa_at (hash_written h ++ (to_be_bytes w16 count ++ rest)) ≡ Some (ecc_scheme.Ecdaa h count, rest)
+unfolding ecdaa_at
+ecdaa_back h count rest fits small = after _ (hash_back h _ fits) ∙ after _ (u16_back count rest small)
+
+ecc_scheme_back : (s : EccScheme) (rest : List ℕ) → IsEccScheme s
+    → ecc_scheme_at (ecc_scheme_written s ++ rest) ≡ Some (s, rest)
 unfolding ecc_scheme_at
-ecc_scheme_back ecc_scheme.Null rest = after _ (u16_back 0x0010 rest (lit< tt))
-ecc_scheme_back (ecc_scheme.Ecdsa h) rest =
-    after _ (u16_back 0x0018 (hash_written h ++ rest) (lit< tt)) ∙ after _ (hash_back h rest)
+ecc_scheme_back ecc_scheme.Null rest fits = after _ (u16_back 0x0010 rest (lit< tt))
+ecc_scheme_back (ecc_scheme.Ecdsa h) rest fits =
+    after _ (u16_back 0x0018 (hash_written h ++ rest) (lit< tt)) ∙ hashed_back ecc_scheme.Ecdsa h rest fits
+ecc_scheme_back (ecc_scheme.Ecdh h) rest fits =
+    after _ (u16_back 0x0019 (hash_written h ++ rest) (lit< tt)) ∙ hashed_back ecc_scheme.Ecdh h rest fits
+ecc_scheme_back (ecc_scheme.Ecdaa h count) rest fits =
+    after _ (u16_back 0x001A (hash_written h ++ (to_be_bytes w16 count ++ rest)) (lit< tt))
+    ∙ ecdaa_back h count rest fits.0 fits.1
+ecc_scheme_back (ecc_scheme.Sm2 h) rest fits =
+    after _ (u16_back 0x001B (hash_written h ++ rest) (lit< tt)) ∙ hashed_back ecc_scheme.Sm2 h rest fits
+ecc_scheme_back (ecc_scheme.EcSchnorr h) rest fits =
+    after _ (u16_back 0x001C (hash_written h ++ rest) (lit< tt)) ∙ hashed_back ecc_scheme.EcSchnorr h rest fits
+ecc_scheme_back (ecc_scheme.EcMqv h) rest fits =
+    after _ (u16_back 0x001D (hash_written h ++ rest) (lit< tt)) ∙ hashed_back ecc_scheme.EcMqv h rest fits
+
+kdf_back : (s : KdfScheme) (rest : List ℕ) → IsKdf s → kdf_at (kdf_written s ++ rest) ≡ Some (s, rest)
+unfolding kdf_at
+kdf_back kdf_scheme.Null rest fits = after _ (u16_back 0x0010 rest (lit< tt))
+kdf_back (kdf_scheme.Mgf1 h) rest fits =
+    after _ (u16_back 0x0007 (hash_written h ++ rest) (lit< tt)) ∙ hashed_back kdf_scheme.Mgf1 h rest fits
+kdf_back (kdf_scheme.Kdf1Sp80056a h) rest fits =
+    after _ (u16_back 0x0020 (hash_written h ++ rest) (lit< tt)) ∙ hashed_back kdf_scheme.Kdf1Sp80056a h rest fits
+kdf_back (kdf_scheme.Kdf2 h) rest fits =
+    after _ (u16_back 0x0021 (hash_written h ++ rest) (lit< tt)) ∙ hashed_back kdf_scheme.Kdf2 h rest fits
+kdf_back (kdf_scheme.Kdf1Sp800108 h) rest fits =
+    after _ (u16_back 0x0022 (hash_written h ++ rest) (lit< tt)) ∙ hashed_back kdf_scheme.Kdf1Sp800108 h rest fits
 
 rsa_back : (k : RsaParts) (rest : List ℕ) → IsRsa k → rsa_at (null_written ++ (rsa_scheme_written k.scheme
     ++ (to_be_bytes w16 k.key_bits ++ (to_be_bytes w32 k.exponent ++ (to_be_bytes w16 (length k.modulus)
     ++ (k.modulus ++ rest)))))) ≡ Some (k, rest)
 unfolding rsa_at
 rsa_back k rest valid =
-    after _ (null_back _) ∙ after _ (rsa_scheme_back k.scheme _) ∙ after _ (u16_back k.key_bits _ valid.bits)
+    after _ (null_back _) ∙ after _ (rsa_scheme_back k.scheme _ valid.scheme) ∙ after _ (u16_back k.key_bits _ valid.bits)
     ∙ after _ (u32_back k.exponent _ valid.exponent) ∙ after _ (sized_back k.modulus rest valid.modulus)
 
 ecc_back : (k : EccParts) (rest : List ℕ) → IsEcc k → ecc_at (null_written ++ (ecc_scheme_written k.scheme
-    ++ (to_be_bytes w16 (curve_id k.curve) ++ (null_written ++ (to_be_bytes w16 (length k.x) ++ (k.x
+    ++ (to_be_bytes w16 k.curve.0 ++ (kdf_written k.kdf ++ (to_be_bytes w16 (length k.x) ++ (k.x
     ++ (to_be_bytes w16 (length k.y) ++ (k.y ++ rest)))))))) ≡ Some (k, rest)
 unfolding ecc_at
 ecc_back k rest valid =
-    after _ (null_back _) ∙ after _ (ecc_scheme_back k.scheme _) ∙ after _ (curve_back k.curve _)
-    ∙ after _ (null_back _) ∙ after _ (sized_back k.x _ valid.x) ∙ after _ (sized_back k.y rest valid.y)
+    after _ (null_back _) ∙ after _ (ecc_scheme_back k.scheme _ valid.scheme) ∙ after _ (curve_back k.curve _ valid.curve)
+    ∙ after _ (kdf_back k.kdf _ valid.kdf) ∙ after _ (sized_back k.x _ valid.x) ∙ after _ (sized_back k.y rest valid.y)
 
 key_back : (k : KeyParts) (rest : List ℕ) → IsKey k → key_at (key_type k) (key_written k ++ rest) ≡ Some (k, rest)
 key_back (rsa k) rest valid =
     ap (key_at 0x0001) (rsa_grouped null_written (rsa_scheme_written k.scheme) (to_be_bytes w16 k.key_bits)
     (to_be_bytes w32 k.exponent) (size_of k.modulus) k.modulus rest) ∙ after _ (rsa_back k rest valid)
 key_back (ecc k) rest valid =
-    ap (key_at 0x0023) (ecc_grouped null_written (ecc_scheme_written k.scheme) (to_be_bytes w16 (curve_id k.curve))
-    null_written (size_of k.x) k.x (size_of k.y) k.y rest) ∙ after _ (ecc_back k rest valid)
+    ap (key_at 0x0023) (ecc_grouped null_written (ecc_scheme_written k.scheme) (to_be_bytes w16 k.curve.0)
+    (kdf_written k.kdf) (size_of k.x) k.x (size_of k.y) k.y rest) ∙ after _ (ecc_back k rest valid)
 
 type_fits : (k : KeyParts) → key_type k < 2 ^ 16
 type_fits (rsa k) = lit< tt
@@ -184,7 +210,7 @@ unfolding pub_area_at
 pub_area_front a rest valid =
     let grouped = pub_area_grouped (to_be_bytes w16 (key_type a.key)) (hash_written a.name_alg) (to_be_bytes w32
     a.object_attributes) (size_of a.auth_policy) a.auth_policy (key_written a.key) rest in
-    ap pub_area_at grouped ∙ after _ (u16_back (key_type a.key) _ (type_fits a.key)) ∙ after _ (hash_back a.name_alg _)
+    ap pub_area_at grouped ∙ after _ (u16_back (key_type a.key) _ (type_fits a.key)) ∙ after _ (hash_back a.name_alg _ valid.name_alg)
     ∙ after _ (u32_back a.object_attributes _ valid.attributes) ∙ after _ (sized_back a.auth_policy _ valid.policy)
     ∙ after _ (key_back a.key rest valid.key)
 

@@ -6,18 +6,20 @@ use Rattle.std.proofs.lemmas.Bool.{and_parts, cases_lt, eqb-true, leb-true}
 use Rattle.std.proofs.lemmas.Bool.Decides.{nat_tests}
 use Rattle.std.proofs.lemmas.List.{append_assoc, append-nil, get_or-append-add, get_or_past, length-take-le, take-append-drop}
 use Rattle.std.proofs.lemmas.Nat.{be_bytes_2, be_bytes_4, be_bytes_8}
-use Rattle.passkey_tpm.specs.CertInfo.{CertInfoParts, magic, certify, header_at, yes_no, yes_no_byte, yes_no_at, clock_info_at, cert_info_at, clock_info_written, cert_info_written}
-use Rattle.passkey_tpm.specs.HashAlgorithm.{hash_algorithm_of, hash_algorithm_id, hash_at}
+use Rattle.passkey_tpm.specs.CertInfo.{CertInfoParts, magic, certify, header_at, clock_info_at, cert_info_at, clock_info_written, cert_info_written}
+use Rattle.passkey_tpm.specs.HashAlgorithm.{hash_of, hash_at}
 use Rattle.passkey_tpm.specs.Laws.{CertInfoIsWrittenBack, PubAreaIsWrittenBack}
 use Rattle.passkey_tpm.specs.Parts.{IsBytes, ◌>>=◌, bytes_at, number_at, u8_at, u16_at, u32_at, u64_at, sized_at, sized_written, whole_only}
-use Rattle.passkey_tpm.specs.PubArea.{KeyParts, RsaParts, EccParts, PubAreaParts, curve_of, curve_id, curve_at, null_at, null_written, rsa_at, ecc_at, key_at, key_type, key_written, rsa_written, ecc_written, pub_area_at, pub_area_written}
+use Rattle.passkey_tpm.specs.PubArea.{KeyParts, RsaParts, EccParts, PubAreaParts, curve_of, curve_at, null_at, null_written, rsa_at, ecc_at, key_at, key_type, key_written, rsa_written, ecc_written, pub_area_at, pub_area_written}
 use Rattle.passkey_tpm.specs.PubArea.KeyParts.{rsa, ecc}
-use Rattle.passkey_tpm.specs.Scheme.{hash_written, hashed, rsa_scheme_at, ecc_scheme_at, rsa_scheme_written, ecc_scheme_written}
+use Rattle.passkey_tpm.specs.Scheme.{hash_written, hashed, rsa_scheme_at, ecdaa_at, ecc_scheme_at, kdf_at, rsa_scheme_written, ecc_scheme_written, kdf_written}
 use Rattle.passkey_tpm.specs.declared.cert_info.ClockInfo.{ClockInfo}
 use Rattle.passkey_tpm.specs.declared.hash_algorithm.HashAlgorithm.{HashAlgorithm}
 use Rattle.passkey_tpm.specs.declared.public_key.Curve.{Curve}
 use Rattle.passkey_tpm.specs.declared.scheme.EccScheme.{EccScheme}
 use Rattle.passkey_tpm.specs.declared.scheme.EccScheme.TheVariants as ecc_scheme
+use Rattle.passkey_tpm.specs.declared.scheme.KdfScheme.{KdfScheme}
+use Rattle.passkey_tpm.specs.declared.scheme.KdfScheme.TheVariants as kdf_scheme
 use Rattle.passkey_tpm.specs.declared.scheme.RsaScheme.{RsaScheme}
 use Rattle.passkey_tpm.specs.declared.scheme.RsaScheme.TheVariants as rsa_scheme
 
@@ -173,25 +175,6 @@ header_taken bytes rest fits e =
     (respelled (ap (to_be_bytes w32) (eqb-true a.x.0 magic both.0)) first)
     (respelled (ap (to_be_bytes w16) (eqb-true b.x.0 certify both.1)) second))
 
-yes_no_of : (n : ℕ) (b : Bool) → yes_no n ≡ Some b → n ≡ yes_no_byte b
-yes_no_of n b e = by_case (n == 0) (n == 1) refl refl where
-  by_case : (x y : Bool) → (n == 0) ≡ x → (n == 1) ≡ y → n ≡ yes_no_byte b
-  by_case true y is is_one = let same : false ≡ b = cc (rw is at e) in eqb-true n 0 is ∙ ap yes_no_byte same
-  by_case false true is is_one = let same : true ≡ b = cc (rw (is, is_one) at e) in eqb-true n 1 is_one ∙ ap yes_no_byte same
-  by_case false false is is_one = absurd (cc (rw (is, is_one) at e))
-
-yes_no_taken : (bytes : List ℕ) (b : Bool) (rest : List ℕ) → IsBytes bytes → yes_no_at bytes ≡ Some (b, rest)
-    → Taken bytes (yes_no_byte b ∷ []) rest
-unfolding yes_no_at
-yes_no_taken bytes b rest fits e =
-    let w = went (u8_at bytes) _ (b, rest) e in
-    let f = u8_taken bytes w.x.0 w.x.1 fits w.was in
-    let v = went (yes_no w.x.0) _ (b, rest) w.gives in
-    let flag : v.x ≡ b = (pair_is v.gives).0 in
-    let behind : w.x.1 ≡ rest = (pair_is v.gives).1 in
-    subst (λ (r : List ℕ). Taken bytes (yes_no_byte b ∷ []) r) behind
-    (respelled (ap (λ (n : ℕ). n ∷ []) (yes_no_of w.x.0 v.x v.was ∙ ap yes_no_byte flag)) f)
-
 clock_info_taken : (bytes : List ℕ) (c : ClockInfo) (rest : List ℕ) → IsBytes bytes
     → clock_info_at bytes ≡ Some (c, rest) → Taken bytes (clock_info_written c) rest
 unfolding clock_info_at
@@ -202,13 +185,14 @@ clock_info_taken bytes c rest fits e =
     let t2 = u32_taken w1.x.1 w2.x.0 w2.x.1 t1.fits w2.was in
     let w3 = went (u32_at w2.x.1) _ (c, rest) w2.gives in
     let t3 = u32_taken w2.x.1 w3.x.0 w3.x.1 t2.fits w3.was in
-    let w4 = went (yes_no_at w3.x.1) _ (c, rest) w3.gives in
-    let t4 = yes_no_taken w3.x.1 w4.x.0 w4.x.1 t3.fits w4.was in
+    let w4 = went (u8_at w3.x.1) _ (c, rest) w3.gives in
+    let t4 = u8_taken w3.x.1 w4.x.0 w4.x.1 t3.fits w4.was in
     let made : ClockInfo = record { clock = w1.x.0; reset_count = w2.x.0; restart_count = w3.x.0; safe = w4.x.0 } in
-    let same : made ≡ c = (pair_is w4.gives).0 in
-    let behind : w4.x.1 ≡ rest = (pair_is w4.gives).1 in
+    let ends = pair_is {x = made} {y = c} {r = w4.x.1} {s = rest} w4.gives in
+    let same : made ≡ c = ends.0 in
+    let behind : w4.x.1 ≡ rest = ends.1 in
     subst (λ (r : List ℕ). Taken bytes (clock_info_written c) r) behind
-    (subst (λ (m : ClockInfo). Taken bytes (clock_info_written m) w4.x.1) same
+    (subst (λ (m : ClockInfo). Taken bytes (clock_info_written m) w4.x.1) {x = made} same
     (then_taken (then_taken (then_taken t1 t2) t3) t4))
 
 cert_info_taken : (bytes : List ℕ) (c : CertInfoParts) (rest : List ℕ) → IsBytes bytes
@@ -237,10 +221,11 @@ cert_info_taken bytes c rest fits e =
       name = w5.x.0;
       qualified_name = w6.x.0;
     } in
-    let same : made ≡ c = (pair_is w6.gives).0 in
-    let behind : w6.x.1 ≡ rest = (pair_is w6.gives).1 in
+    let ends = pair_is {x = made} {y = c} {r = w6.x.1} {s = rest} w6.gives in
+    let same : made ≡ c = ends.0 in
+    let behind : w6.x.1 ≡ rest = ends.1 in
     subst (λ (r : List ℕ). Taken bytes (cert_info_written c) r) behind
-    (subst (λ (m : CertInfoParts). Taken bytes (cert_info_written m) w6.x.1) same
+    (subst (λ (m : CertInfoParts). Taken bytes (cert_info_written m) w6.x.1) {x = made} same
     (then_taken (then_taken (then_taken (then_taken (then_taken (then_taken t0 t1) t2) t3) t4) t5) t6))
 
 -- nothing follows
@@ -275,56 +260,28 @@ chosen n k o other x e = by_case (n == k) refl where
 none_chosen : {X : Type 0} {P : Type 0} (x : X) → ◌≡◌ {A = Option X} None (Some x) → P
 none_chosen x e = absurd cc
 
-hash_of : (n : ℕ) (h : HashAlgorithm) → hash_algorithm_of n ≡ Some h → n ≡ hash_algorithm_id h
-hash_of n h e = elim (chosen n 0x0004 _ _ h e) [
-  | inl p ↦ p.0 ∙ ap hash_algorithm_id (some_is p.1)
-  | inr f ↦ elim (chosen n 0x000B _ _ h f) [
-    | inl p ↦ p.0 ∙ ap hash_algorithm_id (some_is p.1)
-    | inr f ↦ elim (chosen n 0x000C _ _ h f) [
-      | inl p ↦ p.0 ∙ ap hash_algorithm_id (some_is p.1)
-      | inr f ↦ elim (chosen n 0x000D _ _ h f) [
-        | inl p ↦ p.0 ∙ ap hash_algorithm_id (some_is p.1)
-        | inr f ↦ none_chosen h f
-      ]
-    ]
-  ]
-]
-
-curve_is : (n : ℕ) (c : Curve) → curve_of n ≡ Some c → n ≡ curve_id c
-curve_is n c e = elim (chosen n 0x0003 _ _ c e) [
-  | inl p ↦ p.0 ∙ ap curve_id (some_is p.1)
-  | inr f ↦ elim (chosen n 0x0004 _ _ c f) [
-    | inl p ↦ p.0 ∙ ap curve_id (some_is p.1)
-    | inr f ↦ elim (chosen n 0x0005 _ _ c f) [
-      | inl p ↦ p.0 ∙ ap curve_id (some_is p.1)
-      | inr f ↦ none_chosen c f
-    ]
-  ]
-]
+-- a number that is kept as it is
+kept_taken : {X : Type 0} (make : ℕ → X) (number : X → ℕ) → ((n : ℕ) → number (make n) ≡ n)
+    → (bytes : List ℕ) (x : X) (rest : List ℕ) → IsBytes bytes
+    → ◌>>=◌ {Y = X × List ℕ} (u16_at bytes) (λ id. Some (make id.0, id.1)) ≡ Some (x, rest)
+    → Taken bytes (to_be_bytes w16 (number x)) rest
+kept_taken make number same bytes x rest fits e =
+    let w = went (u16_at bytes) _ (x, rest) e in
+    let t = u16_taken bytes w.x.0 w.x.1 fits w.was in
+    let made : make w.x.0 ≡ x = (pair_is w.gives).0 in
+    let behind : w.x.1 ≡ rest = (pair_is w.gives).1 in
+    subst (λ (r : List ℕ). Taken bytes (to_be_bytes w16 (number x)) r) behind
+    (respelled (ap (to_be_bytes w16) (sym (same w.x.0) ∙ ap number made)) t)
 
 hash_taken : (bytes : List ℕ) (h : HashAlgorithm) (rest : List ℕ) → IsBytes bytes → hash_at bytes ≡ Some (h, rest)
     → Taken bytes (hash_written h) rest
 unfolding hash_at
-hash_taken bytes h rest fits e =
-    let w = went (u16_at bytes) _ (h, rest) e in
-    let t = u16_taken bytes w.x.0 w.x.1 fits w.was in
-    let v = went (hash_algorithm_of w.x.0) _ (h, rest) w.gives in
-    let same : v.x ≡ h = (pair_is v.gives).0 in
-    let behind : w.x.1 ≡ rest = (pair_is v.gives).1 in
-    subst (λ (r : List ℕ). Taken bytes (hash_written h) r) behind
-    (respelled (ap (to_be_bytes w16) (hash_of w.x.0 v.x v.was ∙ ap hash_algorithm_id same)) t)
+hash_taken = kept_taken hash_of (λ h. h.0) (λ n. refl)
 
 curve_taken : (bytes : List ℕ) (c : Curve) (rest : List ℕ) → IsBytes bytes → curve_at bytes ≡ Some (c, rest)
-    → Taken bytes (to_be_bytes w16 (curve_id c)) rest
+    → Taken bytes (to_be_bytes w16 c.0) rest
 unfolding curve_at
-curve_taken bytes c rest fits e =
-    let w = went (u16_at bytes) _ (c, rest) e in
-    let t = u16_taken bytes w.x.0 w.x.1 fits w.was in
-    let v = went (curve_of w.x.0) _ (c, rest) w.gives in
-    let same : v.x ≡ c = (pair_is v.gives).0 in
-    let behind : w.x.1 ≡ rest = (pair_is v.gives).1 in
-    subst (λ (r : List ℕ). Taken bytes (to_be_bytes w16 (curve_id c)) r) behind
-    (respelled (ap (to_be_bytes w16) (curve_is w.x.0 v.x v.was ∙ ap curve_id same)) t)
+curve_taken = kept_taken curve_of (λ c. c.0) (λ n. refl)
 
 null_taken : (bytes rest : List ℕ) → IsBytes bytes → null_at bytes ≡ Some rest → Taken bytes null_written rest
 unfolding null_at
@@ -383,6 +340,20 @@ rsa_scheme_taken bytes s rest fits e =
       ]
     ]
 
+ecdaa_taken : (bytes : List ℕ) (id : ℕ) (mid : List ℕ) → Taken bytes (to_be_bytes w16 id) mid → id ≡ 0x001A
+    → (s : EccScheme) (rest : List ℕ) → ecdaa_at mid ≡ Some (s, rest) → Taken bytes (ecc_scheme_written s) rest
+unfolding ecdaa_at
+ecdaa_taken bytes id mid t same s rest e =
+    let w = went (hash_at mid) _ (s, rest) e in
+    let u = hash_taken mid w.x.0 w.x.1 t.fits w.was in
+    let v = went (u16_at w.x.1) _ (s, rest) w.gives in
+    let c = u16_taken w.x.1 v.x.0 v.x.1 u.fits v.was in
+    let made : ecc_scheme.Ecdaa w.x.0 v.x.0 ≡ s = (pair_is v.gives).0 in
+    let behind : v.x.1 ≡ rest = (pair_is v.gives).1 in
+    subst (λ (r : List ℕ). Taken bytes (ecc_scheme_written s) r) behind
+    (respelled (ap ecc_scheme_written made)
+    (then_taken (then_taken (respelled (ap (to_be_bytes w16) same) t) u) c))
+
 ecc_scheme_taken : (bytes : List ℕ) (s : EccScheme) (rest : List ℕ) → IsBytes bytes
     → ecc_scheme_at bytes ≡ Some (s, rest) → Taken bytes (ecc_scheme_written s) rest
 unfolding ecc_scheme_at
@@ -395,7 +366,47 @@ ecc_scheme_taken bytes s rest fits e =
       | inl p ↦ alone_taken bytes id 0x0010 mid ecc_scheme.Null ecc_scheme_written refl t p.0 s rest p.1
       | inr f ↦ elim (chosen id 0x0018 _ _ (s, rest) f) [
         | inl p ↦ hashed_taken bytes id 0x0018 mid ecc_scheme.Ecdsa ecc_scheme_written (λ h. refl) t p.0 s rest p.1
-        | inr f ↦ none_chosen (s, rest) f
+        | inr f ↦ elim (chosen id 0x0019 _ _ (s, rest) f) [
+          | inl p ↦ hashed_taken bytes id 0x0019 mid ecc_scheme.Ecdh ecc_scheme_written (λ h. refl) t p.0 s rest p.1
+          | inr f ↦ elim (chosen id 0x001A _ _ (s, rest) f) [
+            | inl p ↦ ecdaa_taken bytes id mid t p.0 s rest p.1
+            | inr f ↦ elim (chosen id 0x001B _ _ (s, rest) f) [
+              | inl p ↦ hashed_taken bytes id 0x001B mid ecc_scheme.Sm2 ecc_scheme_written (λ h. refl) t p.0 s rest p.1
+              | inr f ↦ elim (chosen id 0x001C _ _ (s, rest) f) [
+                | inl p ↦ hashed_taken bytes id 0x001C mid ecc_scheme.EcSchnorr ecc_scheme_written (λ h. refl) t p.0 s rest p.1
+                | inr f ↦ elim (chosen id 0x001D _ _ (s, rest) f) [
+                  | inl p ↦ hashed_taken bytes id 0x001D mid ecc_scheme.EcMqv ecc_scheme_written (λ h. refl) t p.0 s rest p.1
+                  | inr f ↦ none_chosen (s, rest) f
+                ]
+              ]
+            ]
+          ]
+        ]
+      ]
+    ]
+
+kdf_taken : (bytes : List ℕ) (s : KdfScheme) (rest : List ℕ) → IsBytes bytes → kdf_at bytes ≡ Some (s, rest)
+    → Taken bytes (kdf_written s) rest
+unfolding kdf_at
+kdf_taken bytes s rest fits e =
+    let w = went (u16_at bytes) _ (s, rest) e in
+    let t = u16_taken bytes w.x.0 w.x.1 fits w.was in
+    let id = w.x.0 in
+    let mid = w.x.1 in
+    elim (chosen id 0x0010 _ _ (s, rest) w.gives) [
+      | inl p ↦ alone_taken bytes id 0x0010 mid kdf_scheme.Null kdf_written refl t p.0 s rest p.1
+      | inr f ↦ elim (chosen id 0x0007 _ _ (s, rest) f) [
+        | inl p ↦ hashed_taken bytes id 0x0007 mid kdf_scheme.Mgf1 kdf_written (λ h. refl) t p.0 s rest p.1
+        | inr f ↦ elim (chosen id 0x0020 _ _ (s, rest) f) [
+          | inl p ↦ hashed_taken bytes id 0x0020 mid kdf_scheme.Kdf1Sp80056a kdf_written (λ h. refl) t p.0 s rest p.1
+          | inr f ↦ elim (chosen id 0x0021 _ _ (s, rest) f) [
+            | inl p ↦ hashed_taken bytes id 0x0021 mid kdf_scheme.Kdf2 kdf_written (λ h. refl) t p.0 s rest p.1
+            | inr f ↦ elim (chosen id 0x0022 _ _ (s, rest) f) [
+              | inl p ↦ hashed_taken bytes id 0x0022 mid kdf_scheme.Kdf1Sp800108 kdf_written (λ h. refl) t p.0 s rest p.1
+              | inr f ↦ none_chosen (s, rest) f
+            ]
+          ]
+        ]
       ]
     ]
 
@@ -414,10 +425,11 @@ rsa_taken bytes k rest fits e =
     let w4 = went (sized_at w3.x.1) _ (k, rest) w3.gives in
     let t4 = sized_taken w3.x.1 w4.x.0 w4.x.1 t3.fits w4.was in
     let made : RsaParts = record { scheme = w1.x.0; key_bits = w2.x.0; exponent = w3.x.0; modulus = w4.x.0 } in
-    let same : made ≡ k = (pair_is w4.gives).0 in
-    let behind : w4.x.1 ≡ rest = (pair_is w4.gives).1 in
+    let ends = pair_is {x = made} {y = k} {r = w4.x.1} {s = rest} w4.gives in
+    let same : made ≡ k = ends.0 in
+    let behind : w4.x.1 ≡ rest = ends.1 in
     subst (λ (r : List ℕ). Taken bytes (rsa_written k) r) behind
-    (subst (λ (m : RsaParts). Taken bytes (rsa_written m) w4.x.1) same
+    (subst (λ (m : RsaParts). Taken bytes (rsa_written m) w4.x.1) {x = made} same
     (then_taken (then_taken (then_taken (then_taken t0 t1) t2) t3) t4))
 
 ecc_taken : (bytes : List ℕ) (k : EccParts) (rest : List ℕ) → IsBytes bytes → ecc_at bytes ≡ Some (k, rest)
@@ -430,17 +442,18 @@ ecc_taken bytes k rest fits e =
     let t1 = ecc_scheme_taken w0.x w1.x.0 w1.x.1 t0.fits w1.was in
     let w2 = went (curve_at w1.x.1) _ (k, rest) w1.gives in
     let t2 = curve_taken w1.x.1 w2.x.0 w2.x.1 t1.fits w2.was in
-    let w3 = went (null_at w2.x.1) _ (k, rest) w2.gives in
-    let t3 = null_taken w2.x.1 w3.x t2.fits w3.was in
-    let w4 = went (sized_at w3.x) _ (k, rest) w3.gives in
-    let t4 = sized_taken w3.x w4.x.0 w4.x.1 t3.fits w4.was in
+    let w3 = went (kdf_at w2.x.1) _ (k, rest) w2.gives in
+    let t3 = kdf_taken w2.x.1 w3.x.0 w3.x.1 t2.fits w3.was in
+    let w4 = went (sized_at w3.x.1) _ (k, rest) w3.gives in
+    let t4 = sized_taken w3.x.1 w4.x.0 w4.x.1 t3.fits w4.was in
     let w5 = went (sized_at w4.x.1) _ (k, rest) w4.gives in
     let t5 = sized_taken w4.x.1 w5.x.0 w5.x.1 t4.fits w5.was in
-    let made : EccParts = record { scheme = w1.x.0; curve = w2.x.0; x = w4.x.0; y = w5.x.0 } in
-    let same : made ≡ k = (pair_is w5.gives).0 in
-    let behind : w5.x.1 ≡ rest = (pair_is w5.gives).1 in
+    let made : EccParts = record { scheme = w1.x.0; curve = w2.x.0; kdf = w3.x.0; x = w4.x.0; y = w5.x.0 } in
+    let ends = pair_is {x = made} {y = k} {r = w5.x.1} {s = rest} w5.gives in
+    let same : made ≡ k = ends.0 in
+    let behind : w5.x.1 ≡ rest = ends.1 in
     subst (λ (r : List ℕ). Taken bytes (ecc_written k) r) behind
-    (subst (λ (m : EccParts). Taken bytes (ecc_written m) w5.x.1) same
+    (subst (λ (m : EccParts). Taken bytes (ecc_written m) w5.x.1) {x = made} same
     (then_taken (then_taken (then_taken (then_taken (then_taken t0 t1) t2) t3) t4) t5))
 
 -- the key of a type, with the type
@@ -488,10 +501,11 @@ pub_area_taken bytes a rest fits e =
     let t4 = key_taken w0.x.0 w3.x.1 w4.x.0 w4.x.1 t3.fits w4.was in
     let made : PubAreaParts =
     record { name_alg = w1.x.0; object_attributes = w2.x.0; auth_policy = w3.x.0; key = w4.x.0 } in
-    let same : made ≡ a = (pair_is w4.gives).0 in
-    let behind : w4.x.1 ≡ rest = (pair_is w4.gives).1 in
+    let ends = pair_is {x = made} {y = a} {r = w4.x.1} {s = rest} w4.gives in
+    let same : made ≡ a = ends.0 in
+    let behind : w4.x.1 ≡ rest = ends.1 in
     subst (λ (r : List ℕ). Taken bytes (pub_area_written a) r) behind
-    (subst (λ (m : PubAreaParts). Taken bytes (pub_area_written m) w4.x.1) same
+    (subst (λ (m : PubAreaParts). Taken bytes (pub_area_written m) w4.x.1) {x = made} same
     (then_taken (then_taken (then_taken (then_taken (respelled (ap (to_be_bytes w16) t4.type_is) t0) t1) t2) t3)
     t4.taken))
 

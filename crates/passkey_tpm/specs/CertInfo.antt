@@ -1,5 +1,5 @@
 -- certInfo: a TPMS_ATTEST of type TPM_ST_ATTEST_CERTIFY (TPM 2.0 Library, Part 2).
-use Rattle.std.specs.Prelude.{ℕ, ◌<◌, ◌^◌, ◌==◌, ◌&&◌, Bool, true, false, List, [], ◌∷◌, ◌++◌, length, if◌then◌else◌, Option, Some, None}
+use Rattle.std.specs.Prelude.{ℕ, ◌<◌, ◌^◌, ◌==◌, ◌&&◌, List, [], ◌∷◌, ◌++◌, length, if◌then◌else◌, Option, Some, None}
 use Rattle.std.specs.Int.{w16, w32, w64, to_be_bytes}
 use Rattle.passkey_tpm.specs.Parts.{Begun, ◌>>=◌, u8_at, u16_at, u32_at, u64_at, sized_at, sized_written, whole_only}
 use Rattle.passkey_tpm.specs.declared.cert_info.ClockInfo.{ClockInfo}
@@ -38,25 +38,12 @@ header_at bytes = do
   type ← u16_at generated.1
   if generated.0 == magic && type.0 == certify then Some type.1 else None
 
--- TPMI_YES_NO
-abbrev pub yes_no : ℕ → Option Bool
-yes_no n = if n == 0 then Some false else if n == 1 then Some true else None
-
-abbrev pub yes_no_byte : Bool → ℕ
-yes_no_byte b = if b then 1 else 0
-
-unfoldable pub yes_no_at : List ℕ → Begun Bool
-yes_no_at bytes = do
-  byte ← u8_at bytes
-  flag ← yes_no byte.0
-  Some (flag, byte.1)
-
 unfoldable pub clock_info_at : List ℕ → Begun ClockInfo
 clock_info_at bytes = do
   clock ← u64_at bytes
   resets ← u32_at clock.1
   restarts ← u32_at resets.1
-  safe ← yes_no_at restarts.1
+  safe ← u8_at restarts.1
   Some (record { clock = clock.0; reset_count = resets.0; restart_count = restarts.0; safe = safe.0 }, safe.1)
 
 unfoldable pub cert_info_at : List ℕ → Begun CertInfoParts
@@ -88,7 +75,7 @@ cert_info_in bytes = cert_info_at bytes >>= whole_only
 
 abbrev pub clock_info_written : ClockInfo → List ℕ
 clock_info_written c = to_be_bytes w64 c.clock ++ to_be_bytes w32 c.reset_count ++ to_be_bytes w32 c.restart_count
-    ++ (yes_no_byte c.safe ∷ [])
+    ++ (c.safe ∷ [])
 
 abbrev pub cert_info_written : CertInfoParts → List ℕ
 cert_info_written c =

@@ -1,18 +1,18 @@
 -- pubArea: a TPMT_PUBLIC with an RSA key or a key on an elliptic curve (TPM 2.0 Library, Part 2).
 use Rattle.std.specs.Prelude.{ℕ, ◌<◌, ◌≤◌, ◌^◌, ◌==◌, ◌⊎◌, List, ◌++◌, length, if◌then◌else◌, Option, Some, None}
 use Rattle.std.specs.Int.{w16, w32, to_be_bytes}
-use Rattle.passkey_tpm.specs.HashAlgorithm.{hash_at}
+use Rattle.passkey_tpm.specs.HashAlgorithm.{hash_at, IsHash}
 use Rattle.passkey_tpm.specs.Parts.{Begun, ◌>>=◌, u16_at, u32_at, sized_at, sized_written, whole_only}
-use Rattle.passkey_tpm.specs.Scheme.{rsa_scheme_at, ecc_scheme_at, hash_written, rsa_scheme_written, ecc_scheme_written}
+use Rattle.passkey_tpm.specs.Scheme.{rsa_scheme_at, ecc_scheme_at, kdf_at, hash_written, rsa_scheme_written, ecc_scheme_written, kdf_written, IsRsaScheme, IsEccScheme, IsKdf}
 use Rattle.passkey_tpm.specs.declared.hash_algorithm.HashAlgorithm.{HashAlgorithm}
 use Rattle.passkey_tpm.specs.declared.pub_area.PubArea.{PubArea}
 use Rattle.passkey_tpm.specs.declared.public_key.Curve.{Curve}
-use Rattle.passkey_tpm.specs.declared.public_key.Curve.TheVariants.{P256, P384, P521}
 use Rattle.passkey_tpm.specs.declared.public_key.PublicKey.{PublicKey}
 use Rattle.passkey_tpm.specs.declared.public_key.PublicKey.TheVariants as key
 use Rattle.passkey_tpm.specs.declared.public_key.RsaKey.{RsaKey}
 use Rattle.passkey_tpm.specs.declared.public_key.EccKey.{EccKey}
 use Rattle.passkey_tpm.specs.declared.scheme.EccScheme.{EccScheme}
+use Rattle.passkey_tpm.specs.declared.scheme.KdfScheme.{KdfScheme}
 use Rattle.passkey_tpm.specs.declared.scheme.RsaScheme.{RsaScheme}
 
 -- ---- what contracts see of keys
@@ -26,6 +26,7 @@ pub record RsaParts : Type 0 where
 pub record EccParts : Type 0 where
   pub scheme : EccScheme
   pub curve : Curve
+  pub kdf : KdfScheme
   pub x : List ℕ
   pub y : List ℕ
 
@@ -43,7 +44,7 @@ abbrev pub rsa_parts : RsaKey → RsaParts
 rsa_parts k = record { scheme = k.scheme; key_bits = k.key_bits; exponent = k.exponent; modulus = k.modulus.now }
 
 abbrev pub ecc_parts : EccKey → EccParts
-ecc_parts k = record { scheme = k.scheme; curve = k.curve; x = k.x.now; y = k.y.now }
+ecc_parts k = record { scheme = k.scheme; curve = k.curve; kdf = k.kdf; x = k.x.now; y = k.y.now }
 
 abbrev pub key_parts : PublicKey → KeyParts
 key_parts (key.Rsa k) = rsa (rsa_parts k)
@@ -59,23 +60,13 @@ pub_area_parts a = record {
 
 -- ---- curves by their TPM_ECC_CURVE (section 6.4)
 
-abbrev pub curve_of : ℕ → Option Curve
-curve_of id =
-    if id == 0x0003 then Some P256
-    else if id == 0x0004 then Some P384
-    else if id == 0x0005 then Some P521
-    else None
-
-abbrev pub curve_id : Curve → ℕ
-curve_id P256 = 0x0003
-curve_id P384 = 0x0004
-curve_id P521 = 0x0005
+abbrev pub curve_of : ℕ → Curve
+curve_of id = record { 0 = id }
 
 unfoldable pub curve_at : List ℕ → Begun Curve
 curve_at bytes = do
   id ← u16_at bytes
-  curve ← curve_of id.0
-  Some (curve, id.1)
+  Some (curve_of id.0, id.1)
 
 -- ---- decoding
 
@@ -101,10 +92,10 @@ ecc_at bytes = do
   rest ← null_at bytes
   scheme ← ecc_scheme_at rest
   curve ← curve_at scheme.1
-  last ← null_at curve.1
-  x ← sized_at last
+  kdf ← kdf_at curve.1
+  x ← sized_at kdf.1
   y ← sized_at x.1
-  Some (record { scheme = scheme.0; curve = curve.0; x = x.0; y = y.0 }, y.1)
+  Some (record { scheme = scheme.0; curve = curve.0; kdf = kdf.0; x = x.0; y = y.0 }, y.1)
 
 -- the key of a type, TPM_ALG_RSA or TPM_ALG_ECC
 abbrev pub key_at : ℕ → List ℕ → Begun KeyParts
@@ -138,7 +129,7 @@ rsa_written k =
 
 abbrev pub ecc_written : EccParts → List ℕ
 ecc_written k =
-    null_written ++ ecc_scheme_written k.scheme ++ to_be_bytes w16 (curve_id k.curve) ++ null_written
+    null_written ++ ecc_scheme_written k.scheme ++ to_be_bytes w16 k.curve.0 ++ kdf_written k.kdf
     ++ sized_written k.x ++ sized_written k.y
 
 abbrev pub key_type : KeyParts → ℕ
@@ -156,11 +147,15 @@ pub_area_written a =
 
 -- each number fits its width, and each length 2 bytes
 pub record IsRsa (k : RsaParts) : Type 0 where
+  pub scheme : IsRsaScheme k.scheme
   pub bits : k.key_bits < 2 ^ 16
   pub exponent : k.exponent < 2 ^ 32
   pub modulus : length k.modulus < 2 ^ 16
 
 pub record IsEcc (k : EccParts) : Type 0 where
+  pub scheme : IsEccScheme k.scheme
+  pub curve : k.curve.0 < 2 ^ 16
+  pub kdf : IsKdf k.kdf
   pub x : length k.x < 2 ^ 16
   pub y : length k.y < 2 ^ 16
 
@@ -169,6 +164,7 @@ IsKey (rsa k) = IsRsa k
 IsKey (ecc k) = IsEcc k
 
 pub record IsPubArea (a : PubAreaParts) : Type 0 where
+  pub name_alg : IsHash a.name_alg
   pub attributes : a.object_attributes < 2 ^ 32
   pub policy : length a.auth_policy < 2 ^ 16
   pub key : IsKey a.key

@@ -1,6 +1,6 @@
 //! `certInfo` of a tpm attestation statement.
-ghost use Rattle.std.specs.Prelude.{◌≡◌, ◌≢◌, ◌≤◌, ◌^◌, ◌++◌, ◌⊎◌, length, Err, option_map, IfOk, OnOk};
-ghost use Rattle.passkey_tpm.specs.CertInfo.{cert_info_parts, header_at, yes_no_byte, yes_no_at, clock_info_at, cert_info_at, cert_info_in, clock_info_written, cert_info_written, IsClockInfo, IsCertInfo};
+ghost use Rattle.std.specs.Prelude.{◌≡◌, ◌≢◌, ◌≤◌, ◌^◌, ◌++◌, ◌⊎◌, length, nat_lt, Err, option_map, IfOk, OnOk};
+ghost use Rattle.passkey_tpm.specs.CertInfo.{cert_info_parts, header_at, clock_info_at, cert_info_at, cert_info_in, clock_info_written, cert_info_written, IsClockInfo, IsCertInfo};
 ghost use Rattle.passkey_tpm.specs.declared.encode_error.EncodeError.TheVariants.{TooLong};
 
 use crate::EncodeError;
@@ -22,8 +22,18 @@ pub struct ClockInfo {
     pub reset_count: u32,
     /// The number of restarts and resumes since the last reset.
     pub restart_count: u32,
-    /// Whether no greater value of the clock was reported before.
-    pub safe: bool,
+    /// `safe`, a TPMI_YES_NO, whose values are 0 and 1. Any byte is kept, since the attestations in
+    /// WebAuthn Level 3's test vectors have other bytes here. `is_safe` tells what it says.
+    pub safe: u8,
+}
+
+impl ClockInfo {
+    /// Returns whether no greater value of the clock was reported before: `safe` isn't 0.
+    pub fn is_safe(&self) -> bool
+        ensures { result ≡ nat_lt 0 self.now.safe }
+    {
+        self.safe != 0
+    }
 }
 
 /// `certInfo`: a TPMS_ATTEST of the type TPM_ST_ATTEST_CERTIFY, whose `attested` is a
@@ -58,18 +68,6 @@ fn read_header(bytes: &[u8]) -> Option<&[u8]>
     }
 }
 
-#[tactic(auto, unfolding(crate::specs::CertInfo::yes_no_at))]
-fn read_yes_no(bytes: &[u8]) -> Begun<'_, bool>
-    ensures { option_map (λ r. (r.0, r.1.now)) result ≡ yes_no_at bytes.now }
-{
-    let (byte, rest) = read_u8(bytes)?;
-    match byte {
-        0 => Some((false, rest)),
-        1 => Some((true, rest)),
-        _ => None,
-    }
-}
-
 #[tactic(auto, unfolding(crate::specs::CertInfo::clock_info_at))]
 fn read_clock_info(bytes: &[u8]) -> Begun<'_, ClockInfo>
     ensures { option_map (λ r. (r.0, r.1.now)) result ≡ clock_info_at bytes.now }
@@ -77,7 +75,7 @@ fn read_clock_info(bytes: &[u8]) -> Begun<'_, ClockInfo>
     let (clock, rest) = read_u64(bytes)?;
     let (reset_count, rest) = read_u32(rest)?;
     let (restart_count, rest) = read_u32(rest)?;
-    let (safe, rest) = read_yes_no(rest)?;
+    let (safe, rest) = read_u8(rest)?;
     let info = ClockInfo {
         clock,
         reset_count,
@@ -109,12 +107,6 @@ fn read_cert_info(bytes: &[u8]) -> Begun<'_, CertInfo<'_>>
     Some((info, rest))
 }
 
-fn byte_of_yes_no(flag: bool) -> u8
-    ensures { result ≡ yes_no_byte flag }
-{
-    if flag { 1 } else { 0 }
-}
-
 fn push_clock_info(out: &mut Vec<u8>, info: &ClockInfo) -> Result<(), EncodeError>
     ensures written { OnOk result (out.new.items ≡ out.old.items ++ clock_info_written info.now) }
     ensures valid { OnOk result (IsClockInfo info.now) }
@@ -123,7 +115,7 @@ fn push_clock_info(out: &mut Vec<u8>, info: &ClockInfo) -> Result<(), EncodeErro
     out.extend_from_slice(&info.clock.to_be_bytes())?;
     out.extend_from_slice(&info.reset_count.to_be_bytes())?;
     out.extend_from_slice(&info.restart_count.to_be_bytes())?;
-    out.push(byte_of_yes_no(info.safe))?;
+    out.push(info.safe)?;
     Ok(())
 }
 
@@ -131,8 +123,8 @@ impl<'a> CertInfo<'a> {
     /// Decodes `certInfo`, which is all of the bytes: the magic number FF544347, the type 8017,
     /// and the members in their order, all big-endian, a byte string with its length in 2 bytes
     /// before it. Returns `None` exactly if the bytes aren't that: they end within a member, go on
-    /// behind the last, or have another magic number, another type, or neither 0 nor 1 as `safe`.
-    /// Allocates nothing. Nothing is checked of what the members mean.
+    /// behind the last, or have another magic number or another type. Allocates nothing. Nothing is
+    /// checked of what the members mean.
     pub fn from_slice(bytes: &'a [u8]) -> Option<CertInfo<'a>>
         ensures { option_map cert_info_parts result ≡ cert_info_in bytes.now }
     {

@@ -1,47 +1,40 @@
 //! Hash algorithms by their TPM_ALG_ID.
 ghost use Rattle.std.specs.Prelude.{◌≡◌, option_map};
-ghost use Rattle.passkey_tpm.specs.HashAlgorithm.{hash_algorithm_of, hash_algorithm_id, hash_at};
+ghost use Rattle.passkey_tpm.specs.HashAlgorithm.{hash_at};
 
 use crate::part::{Begun, read_u16};
 
-/// A hash algorithm, with its TPM_ALG_ID (TPM 2.0 Library, Part 2).
+/// The TPM_ALG_ID of a hash algorithm (TPM 2.0 Library, Part 2, section 6.3). Any number is kept.
 #[derive(Clone, Copy, Debug, PartialEq, Eq)]
-pub enum HashAlgorithm {
-    /// 0x0004: TPM_ALG_SHA1.
-    Sha1,
-    /// 0x000B: TPM_ALG_SHA256.
-    Sha256,
-    /// 0x000C: TPM_ALG_SHA384.
-    Sha384,
-    /// 0x000D: TPM_ALG_SHA512.
-    Sha512,
-}
+pub struct HashAlgorithm(pub u16);
 
 impl HashAlgorithm {
-    /// Returns the algorithm with this TPM_ALG_ID, or `None` if it is none of the four.
-    pub fn from_id(id: u16) -> Option<HashAlgorithm>
-        ensures { result ≡ hash_algorithm_of id }
-    {
-        match id {
-            0x0004 => Some(HashAlgorithm::Sha1),
-            0x000B => Some(HashAlgorithm::Sha256),
-            0x000C => Some(HashAlgorithm::Sha384),
-            0x000D => Some(HashAlgorithm::Sha512),
-            _ => None,
-        }
-    }
+    /// TPM_ALG_SHA1.
+    pub const SHA1: HashAlgorithm = HashAlgorithm(0x0004);
 
-    /// Returns the TPM_ALG_ID.
-    pub fn id(self) -> u16
-        ensures { result ≡ hash_algorithm_id self }
-    {
-        match self {
-            HashAlgorithm::Sha1 => 0x0004,
-            HashAlgorithm::Sha256 => 0x000B,
-            HashAlgorithm::Sha384 => 0x000C,
-            HashAlgorithm::Sha512 => 0x000D,
-        }
-    }
+    /// TPM_ALG_SHA256.
+    pub const SHA256: HashAlgorithm = HashAlgorithm(0x000B);
+
+    /// TPM_ALG_SHA384.
+    pub const SHA384: HashAlgorithm = HashAlgorithm(0x000C);
+
+    /// TPM_ALG_SHA512.
+    pub const SHA512: HashAlgorithm = HashAlgorithm(0x000D);
+
+    /// TPM_ALG_NULL: no hash algorithm.
+    pub const NULL: HashAlgorithm = HashAlgorithm(0x0010);
+
+    /// TPM_ALG_SM3_256.
+    pub const SM3_256: HashAlgorithm = HashAlgorithm(0x0012);
+
+    /// TPM_ALG_SHA3_256.
+    pub const SHA3_256: HashAlgorithm = HashAlgorithm(0x0027);
+
+    /// TPM_ALG_SHA3_384.
+    pub const SHA3_384: HashAlgorithm = HashAlgorithm(0x0028);
+
+    /// TPM_ALG_SHA3_512.
+    pub const SHA3_512: HashAlgorithm = HashAlgorithm(0x0029);
 }
 
 #[tactic(auto, unfolding(crate::specs::HashAlgorithm::hash_at))]
@@ -49,5 +42,5 @@ pub(crate) fn read_hash(bytes: &[u8]) -> Begun<'_, HashAlgorithm>
     ensures { option_map (λ r. (r.0, r.1.now)) result ≡ hash_at bytes.now }
 {
     let (id, rest) = read_u16(bytes)?;
-    Some((HashAlgorithm::from_id(id)?, rest))
+    Some((HashAlgorithm(id), rest))
 }

@@ -16,4 +16,4 @@ pub use encode_error::EncodeError;
 pub use hash_algorithm::HashAlgorithm;
 pub use pub_area::PubArea;
 pub use public_key::{Curve, EccKey, PublicKey, RsaKey};
-pub use scheme::{EccScheme, RsaScheme};
+pub use scheme::{EccScheme, KdfScheme, RsaScheme};

@@ -47,10 +47,11 @@ impl<'a> PubArea<'a> {
     /// bytes before it: the type, `nameAlg`, `objectAttributes`, `authPolicy`; then of an RSA key
     /// (type 0001) `symmetric`, `scheme`, `keyBits`, `exponent` and the modulus; and of a key on an
     /// elliptic curve (type 0023) `symmetric`, `scheme`, `curveID`, `kdf`, x and y. The TPM_ALG_ID of
-    /// a hash algorithm follows that of a scheme which uses one. Returns `None` exactly if the bytes
-    /// aren't that: they end within a member, go on behind the last, or have another type, an
-    /// unknown hash algorithm, scheme or curve, or another `symmetric` or `kdf` than TPM_ALG_NULL.
-    /// Allocates nothing. Nothing is checked of what the members mean.
+    /// a hash algorithm follows that of a scheme which uses one, and `count` follows it for
+    /// TPM_ALG_ECDAA. Returns `None` exactly if the bytes aren't that: they end within a member, go on
+    /// behind the last, or have another type, a `scheme` or `kdf` that isn't named here, whose
+    /// length isn't known, or another `symmetric` than TPM_ALG_NULL. Allocates nothing. Nothing is
+    /// checked of what the members mean.
     pub fn from_slice(bytes: &'a [u8]) -> Option<PubArea<'a>>
         ensures { option_map pub_area_parts result ≡ pub_area_in bytes.now }
     {
@@ -67,7 +68,7 @@ impl<'a> PubArea<'a> {
             ⊎ IsLongKey (key_parts self.now.key) }
     {
         let mut out = Vec::from_slice(alloc, &self.key.kind().to_be_bytes())?;
-        out.extend_from_slice(&self.name_alg.id().to_be_bytes())?;
+        out.extend_from_slice(&self.name_alg.0.to_be_bytes())?;
         out.extend_from_slice(&self.object_attributes.to_be_bytes())?;
         push_sized(&mut out, self.auth_policy)?;
         push_key(&mut out, &self.key)?;

@@ -1,12 +1,14 @@
 //! Public keys: the parameters and the unique part of `pubArea`.
 ghost use Rattle.std.specs.Prelude.{◌≡◌, ◌++◌, Err, option_map, OnOk};
-ghost use Rattle.passkey_tpm.specs.PubArea.{rsa_parts, ecc_parts, key_parts, curve_of, curve_id, curve_at, null_at, rsa_at, ecc_at, key_at, rsa_written, ecc_written, key_type, key_written, IsRsa, IsEcc, IsKey, IsLongKey};
+ghost use Rattle.passkey_tpm.specs.PubArea.{rsa_parts, ecc_parts, key_parts, curve_at, null_at, rsa_at, ecc_at, key_at, rsa_written, ecc_written, key_type, key_written, IsRsa, IsEcc, IsKey, IsLongKey};
 ghost use Rattle.passkey_tpm.specs.PubArea.KeyParts.{rsa, ecc};
 ghost use Rattle.passkey_tpm.specs.declared.encode_error.EncodeError.TheVariants.{TooLong};
 
 use crate::part::{Begun, push_sized, read_sized, read_u16, read_u32};
-use crate::scheme::{NULL, push_ecc_scheme, push_rsa_scheme, read_ecc_scheme, read_rsa_scheme};
-use crate::{EccScheme, EncodeError, RsaScheme};
+use crate::scheme::{
+    NULL, push_ecc_scheme, push_kdf, push_rsa_scheme, read_ecc_scheme, read_kdf, read_rsa_scheme,
+};
+use crate::{EccScheme, EncodeError, KdfScheme, RsaScheme};
 
 /// TPM_ALG_RSA.
 const RSA: u16 = 0x0001;
@@ -14,40 +16,35 @@ const RSA: u16 = 0x0001;
 /// TPM_ALG_ECC.
 const ECC: u16 = 0x0023;
 
-/// An elliptic curve, with its TPM_ECC_CURVE (TPM 2.0 Library, Part 2).
+/// The TPM_ECC_CURVE of an elliptic curve (TPM 2.0 Library, Part 2, section 6.4). Any number is
+/// kept.
 #[derive(Clone, Copy, Debug, PartialEq, Eq)]
-pub enum Curve {
-    /// 0x0003: TPM_ECC_NIST_P256.
-    P256,
-    /// 0x0004: TPM_ECC_NIST_P384.
-    P384,
-    /// 0x0005: TPM_ECC_NIST_P521.
-    P521,
-}
+pub struct Curve(pub u16);
 
 impl Curve {
-    /// Returns the curve with this TPM_ECC_CURVE, or `None` if it is none of the three.
-    pub fn from_id(id: u16) -> Option<Curve>
-        ensures { result ≡ curve_of id }
-    {
-        match id {
-            0x0003 => Some(Curve::P256),
-            0x0004 => Some(Curve::P384),
-            0x0005 => Some(Curve::P521),
-            _ => None,
-        }
-    }
+    /// TPM_ECC_NIST_P192.
+    pub const P192: Curve = Curve(0x0001);
 
-    /// Returns the TPM_ECC_CURVE.
-    pub fn id(self) -> u16
-        ensures { result ≡ curve_id self }
-    {
-        match self {
-            Curve::P256 => 0x0003,
-            Curve::P384 => 0x0004,
-            Curve::P521 => 0x0005,
-        }
-    }
+    /// TPM_ECC_NIST_P224.
+    pub const P224: Curve = Curve(0x0002);
+
+    /// TPM_ECC_NIST_P256.
+    pub const P256: Curve = Curve(0x0003);
+
+    /// TPM_ECC_NIST_P384.
+    pub const P384: Curve = Curve(0x0004);
+
+    /// TPM_ECC_NIST_P521.
+    pub const P521: Curve = Curve(0x0005);
+
+    /// TPM_ECC_BN_P256.
+    pub const BN_P256: Curve = Curve(0x0010);
+
+    /// TPM_ECC_BN_P638.
+    pub const BN_P638: Curve = Curve(0x0011);
+
+    /// TPM_ECC_SM2_P256.
+    pub const SM2_P256: Curve = Curve(0x0020);
 }
 
 /// An RSA key: TPMS_RSA_PARMS, and the modulus as a TPM2B_PUBLIC_KEY_RSA (TPM 2.0 Library, Part 2).
@@ -65,13 +62,15 @@ pub struct RsaKey<'a> {
 }
 
 /// A key on an elliptic curve: TPMS_ECC_PARMS, and the point as a TPMS_ECC_POINT (TPM 2.0 Library,
-/// Part 2). `symmetric` and `kdf` are TPM_ALG_NULL.
+/// Part 2). `symmetric` is TPM_ALG_NULL.
 #[derive(Clone, Copy, Debug)]
 pub struct EccKey<'a> {
     /// `scheme`.
     pub scheme: EccScheme,
     /// `curveID`.
     pub curve: Curve,
+    /// `kdf`.
+    pub kdf: KdfScheme,
     /// The point's x coordinate, big-endian.
     pub x: &'a [u8],
     /// The point's y coordinate, big-endian.
@@ -92,7 +91,7 @@ fn read_curve(bytes: &[u8]) -> Begun<'_, Curve>
     ensures { option_map (λ r. (r.0, r.1.now)) result ≡ curve_at bytes.now }
 {
     let (id, rest) = read_u16(bytes)?;
-    Some((Curve::from_id(id)?, rest))
+    Some((Curve(id), rest))
 }
 
 #[tactic(auto, unfolding(crate::specs::PubArea::null_at))]
@@ -128,18 +127,17 @@ fn read_ecc(bytes: &[u8]) -> Begun<'_, EccKey<'_>>
     let rest = read_null(bytes)?;
     let (scheme, rest) = read_ecc_scheme(rest)?;
     let (curve, rest) = read_curve(rest)?;
-    let rest = read_null(rest)?;
+    let (kdf, rest) = read_kdf(rest)?;
     let (x, rest) = read_sized(rest)?;
     let (y, rest) = read_sized(rest)?;
-    Some((
-        EccKey {
-            scheme,
-            curve,
-            x,
-            y,
-        },
-        rest,
-    ))
+    let key = EccKey {
+        scheme,
+        curve,
+        kdf,
+        x,
+        y,
+    };
+    Some((key, rest))
 }
 
 /// The key of this type.
@@ -180,8 +178,8 @@ fn push_ecc(out: &mut Vec<u8>, key: &EccKey<'_>) -> Result<(), EncodeError>
 {
     out.extend_from_slice(&NULL.to_be_bytes())?;
     push_ecc_scheme(out, key.scheme)?;
-    out.extend_from_slice(&key.curve.id().to_be_bytes())?;
-    out.extend_from_slice(&NULL.to_be_bytes())?;
+    out.extend_from_slice(&key.curve.0.to_be_bytes())?;
+    push_kdf(out, key.kdf)?;
     push_sized(out, key.x)?;
     push_sized(out, key.y)
 }

@@ -1,7 +1,8 @@
-//! Schemes of keys.
+//! Schemes of keys, and of the derivation of keys.
 ghost use Rattle.std.specs.Prelude.{◌≡◌, ◌++◌, option_map, OnOk};
 ghost use Rattle.std.specs.Int.{w16, to_be_bytes};
-ghost use Rattle.passkey_tpm.specs.Scheme.{rsa_scheme_at, ecc_scheme_at, rsa_scheme_written, ecc_scheme_written, hash_written};
+ghost use Rattle.passkey_tpm.specs.HashAlgorithm.{IsHash};
+ghost use Rattle.passkey_tpm.specs.Scheme.{rsa_scheme_at, ecdaa_at, ecc_scheme_at, kdf_at, rsa_scheme_written, ecc_scheme_written, kdf_written, hash_written, IsRsaScheme, IsEccScheme, IsKdf};
 
 use crate::HashAlgorithm;
 use crate::hash_algorithm::read_hash;
@@ -33,6 +34,31 @@ pub enum EccScheme {
     Null,
     /// 0x0018: TPM_ALG_ECDSA.
     Ecdsa(HashAlgorithm),
+    /// 0x0019: TPM_ALG_ECDH.
+    Ecdh(HashAlgorithm),
+    /// 0x001A: TPM_ALG_ECDAA, with `count`, the counter of its commit.
+    Ecdaa(HashAlgorithm, u16),
+    /// 0x001B: TPM_ALG_SM2.
+    Sm2(HashAlgorithm),
+    /// 0x001C: TPM_ALG_ECSCHNORR.
+    EcSchnorr(HashAlgorithm),
+    /// 0x001D: TPM_ALG_ECMQV.
+    EcMqv(HashAlgorithm),
+}
+
+/// TPMT_KDF_SCHEME: how keys are derived from a key on an elliptic curve (TPM 2.0 Library, Part 2).
+#[derive(Clone, Copy, Debug, PartialEq, Eq)]
+pub enum KdfScheme {
+    /// 0x0010, TPM_ALG_NULL: no keys are derived.
+    Null,
+    /// 0x0007: TPM_ALG_MGF1.
+    Mgf1(HashAlgorithm),
+    /// 0x0020: TPM_ALG_KDF1_SP800_56A.
+    Kdf1Sp80056a(HashAlgorithm),
+    /// 0x0021: TPM_ALG_KDF2.
+    Kdf2(HashAlgorithm),
+    /// 0x0022: TPM_ALG_KDF1_SP800_108.
+    Kdf1Sp800108(HashAlgorithm),
 }
 
 #[tactic(auto, unfolding(crate::specs::Scheme::rsa_scheme_at))]
@@ -59,6 +85,15 @@ pub(crate) fn read_rsa_scheme(bytes: &[u8]) -> Begun<'_, RsaScheme>
     }
 }
 
+#[tactic(auto, unfolding(crate::specs::Scheme::ecdaa_at))]
+fn read_ecdaa(bytes: &[u8]) -> Begun<'_, EccScheme>
+    ensures { option_map (λ r. (r.0, r.1.now)) result ≡ ecdaa_at bytes.now }
+{
+    let (hash, rest) = read_hash(bytes)?;
+    let (count, rest) = read_u16(rest)?;
+    Some((EccScheme::Ecdaa(hash, count), rest))
+}
+
 #[tactic(auto, unfolding(crate::specs::Scheme::ecc_scheme_at))]
 pub(crate) fn read_ecc_scheme(bytes: &[u8]) -> Begun<'_, EccScheme>
     ensures { option_map (λ r. (r.0, r.1.now)) result ≡ ecc_scheme_at bytes.now }
@@ -70,21 +105,67 @@ pub(crate) fn read_ecc_scheme(bytes: &[u8]) -> Begun<'_, EccScheme>
             let (hash, rest) = read_hash(rest)?;
             Some((EccScheme::Ecdsa(hash), rest))
         }
+        0x0019 => {
+            let (hash, rest) = read_hash(rest)?;
+            Some((EccScheme::Ecdh(hash), rest))
+        }
+        0x001A => read_ecdaa(rest),
+        0x001B => {
+            let (hash, rest) = read_hash(rest)?;
+            Some((EccScheme::Sm2(hash), rest))
+        }
+        0x001C => {
+            let (hash, rest) = read_hash(rest)?;
+            Some((EccScheme::EcSchnorr(hash), rest))
+        }
+        0x001D => {
+            let (hash, rest) = read_hash(rest)?;
+            Some((EccScheme::EcMqv(hash), rest))
+        }
+        _ => None,
+    }
+}
+
+#[tactic(auto, unfolding(crate::specs::Scheme::kdf_at))]
+pub(crate) fn read_kdf(bytes: &[u8]) -> Begun<'_, KdfScheme>
+    ensures { option_map (λ r. (r.0, r.1.now)) result ≡ kdf_at bytes.now }
+{
+    let (id, rest) = read_u16(bytes)?;
+    match id {
+        0x0010 => Some((KdfScheme::Null, rest)),
+        0x0007 => {
+            let (hash, rest) = read_hash(rest)?;
+            Some((KdfScheme::Mgf1(hash), rest))
+        }
+        0x0020 => {
+            let (hash, rest) = read_hash(rest)?;
+            Some((KdfScheme::Kdf1Sp80056a(hash), rest))
+        }
+        0x0021 => {
+            let (hash, rest) = read_hash(rest)?;
+            Some((KdfScheme::Kdf2(hash), rest))
+        }
+        0x0022 => {
+            let (hash, rest) = read_hash(rest)?;
+            Some((KdfScheme::Kdf1Sp800108(hash), rest))
+        }
         _ => None,
     }
 }
 
 /// Appends a scheme's TPM_ALG_ID and its hash algorithm's.
 fn push_hashed(out: &mut Vec<u8>, id: u16, hash: HashAlgorithm) -> Result<(), OutOfMemory>
-    ensures { OnOk result (out.new.items ≡ out.old.items ++ (to_be_bytes w16 id ++ hash_written hash)) }
+    ensures written { OnOk result (out.new.items ≡ out.old.items ++ (to_be_bytes w16 id ++ hash_written hash)) }
+    ensures valid { IsHash hash }
 {
     out.extend_from_slice(&id.to_be_bytes())?;
-    out.extend_from_slice(&hash.id().to_be_bytes())?;
+    out.extend_from_slice(&hash.0.to_be_bytes())?;
     Ok(())
 }
 
 pub(crate) fn push_rsa_scheme(out: &mut Vec<u8>, scheme: RsaScheme) -> Result<(), OutOfMemory>
-    ensures { OnOk result (out.new.items ≡ out.old.items ++ rsa_scheme_written scheme) }
+    ensures written { OnOk result (out.new.items ≡ out.old.items ++ rsa_scheme_written scheme) }
+    ensures valid { IsRsaScheme scheme }
 {
     match scheme {
         RsaScheme::Null => out.extend_from_slice(&NULL.to_be_bytes())?,
@@ -96,12 +177,43 @@ pub(crate) fn push_rsa_scheme(out: &mut Vec<u8>, scheme: RsaScheme) -> Result<()
     Ok(())
 }
 
+#[tactic(auto, using(std::proofs::lemmas::List::append_assoc))]
+fn push_ecdaa(out: &mut Vec<u8>, hash: HashAlgorithm, count: u16) -> Result<(), OutOfMemory>
+    ensures written { OnOk result (out.new.items
+        ≡ out.old.items ++ (to_be_bytes w16 0x001A ++ hash_written hash ++ to_be_bytes w16 count)) }
+    ensures valid { IsHash hash }
+{
+    push_hashed(out, 0x001A, hash)?;
+    out.extend_from_slice(&count.to_be_bytes())?;
+    Ok(())
+}
+
 pub(crate) fn push_ecc_scheme(out: &mut Vec<u8>, scheme: EccScheme) -> Result<(), OutOfMemory>
-    ensures { OnOk result (out.new.items ≡ out.old.items ++ ecc_scheme_written scheme) }
+    ensures written { OnOk result (out.new.items ≡ out.old.items ++ ecc_scheme_written scheme) }
+    ensures valid { IsEccScheme scheme }
 {
     match scheme {
         EccScheme::Null => out.extend_from_slice(&NULL.to_be_bytes())?,
         EccScheme::Ecdsa(hash) => push_hashed(out, 0x0018, hash)?,
+        EccScheme::Ecdh(hash) => push_hashed(out, 0x0019, hash)?,
+        EccScheme::Ecdaa(hash, count) => push_ecdaa(out, hash, count)?,
+        EccScheme::Sm2(hash) => push_hashed(out, 0x001B, hash)?,
+        EccScheme::EcSchnorr(hash) => push_hashed(out, 0x001C, hash)?,
+        EccScheme::EcMqv(hash) => push_hashed(out, 0x001D, hash)?,
+    }
+    Ok(())
+}
+
+pub(crate) fn push_kdf(out: &mut Vec<u8>, scheme: KdfScheme) -> Result<(), OutOfMemory>
+    ensures written { OnOk result (out.new.items ≡ out.old.items ++ kdf_written scheme) }
+    ensures valid { IsKdf scheme }
+{
+    match scheme {
+        KdfScheme::Null => out.extend_from_slice(&NULL.to_be_bytes())?,
+        KdfScheme::Mgf1(hash) => push_hashed(out, 0x0007, hash)?,
+        KdfScheme::Kdf1Sp80056a(hash) => push_hashed(out, 0x0020, hash)?,
+        KdfScheme::Kdf2(hash) => push_hashed(out, 0x0021, hash)?,
+        KdfScheme::Kdf1Sp800108(hash) => push_hashed(out, 0x0022, hash)?,
     }
     Ok(())
 }

@@ -6,6 +6,6 @@ pub use passkey_attestation::{
     StatementFault, TpmStatement, laws,
 };
 pub use passkey_tpm::{
-    CertInfo, ClockInfo, Curve, EccKey, EccScheme, EncodeError, HashAlgorithm, PubArea, PublicKey,
-    RsaKey, RsaScheme,
+    CertInfo, ClockInfo, Curve, EccKey, EccScheme, EncodeError, HashAlgorithm, KdfScheme, PubArea,
+    PublicKey, RsaKey, RsaScheme,
 };

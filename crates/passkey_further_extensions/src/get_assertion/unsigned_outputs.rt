@@ -10,7 +10,8 @@ use std::alloc::Global;
 
 /// Extension outputs of an authenticatorGetAssertion response that are outside its authenticator
 /// data: member 0x08 (CTAP 2.3, section 6.2). `None` means that the member is absent; null also
-/// decodes to `None`.
+/// decodes to `None`. `others_of` returns the outputs that aren't here, such as previewSign's, and
+/// `with_others` and `with_row` put them back.
 #[derive(Debug, Default, Drop)]
 pub struct UnsignedExtensionOutputs {
     /// `prf`: its outputs.

@@ -28,6 +28,8 @@ pub struct SignedExtensionOutputs {
     pub min_pin_length: Option<u32>,
     /// `hmac-secret-mc`: the outputs for the salts, encrypted.
     pub hmac_secret_mc: Option<Bytes>,
+    /// `pinComplexityPolicy`: whether the authenticator enforces a PIN complexity policy (CTAP 2.2).
+    pub pin_complexity_policy: Option<bool>,
 }
 
 impl TableRecord for SignedExtensionOutputs {
@@ -49,6 +51,7 @@ impl TableRecord for SignedExtensionOutputs {
             Row::Optional(4, "hmac-secret"),
             Row::Optional(5, "minPinLength"),
             Row::Optional(6, "hmac-secret-mc"),
+            Row::Optional(7, "pinComplexityPolicy"),
         ]
     }
 
@@ -64,6 +67,7 @@ impl TableRecord for SignedExtensionOutputs {
             4 => set(&mut self.hmac_secret, alloc, source),
             5 => set(&mut self.min_pin_length, alloc, source),
             6 => set(&mut self.hmac_secret_mc, alloc, source),
+            7 => set(&mut self.pin_complexity_policy, alloc, source),
             _ => Err(Refusal::Refused),
         }
     }
@@ -75,6 +79,7 @@ impl TableRecord for SignedExtensionOutputs {
         sink.put_some(alloc, "hmac-secret", &self.hmac_secret)?;
         sink.put_some(alloc, "minPinLength", &self.min_pin_length)?;
         sink.put_some(alloc, "hmac-secret-mc", &self.hmac_secret_mc)?;
+        sink.put_some(alloc, "pinComplexityPolicy", &self.pin_complexity_policy)?;
         Ok(())
     }
 

@@ -4,6 +4,7 @@ use Rattle.passkey_further_extensions.proofs.make_credential.signed_outputs.Sign
 pub returns-clause-put : goal.returns-clause-put
 returns-clause-put g c =
     rw (
+      c.in_ok-put_some-6.ensures.put,
       c.in_ok-put_some-5.ensures.put,
       c.in_ok-put_some-4.ensures.put,
       c.in_ok-put_some-3.ensures.put,
