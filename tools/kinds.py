@@ -21,6 +21,18 @@ def names_of(table):
     return re.findall(rf'\("([a-z0-9-]+)", {enumeration}::\w+\)', (CRATES / file).read_text(encoding="utf-8"))
 
 
+def docs():
+    """Returns each kind, and the comment of its value."""
+    found = {}
+    for table in TABLES:
+        enumeration, file, _ = table
+        text = (CRATES / file).read_text(encoding="utf-8")
+        body = text.partition(f"pub enum {enumeration} {{\n")[2].partition("\n}")[0]
+        told = {name: " ".join(it.strip().removeprefix("/// ") for it in said.splitlines()) for said, name in re.findall(r"((?: *///.*\n)+) *(\w+),", body)}
+        found.update((name, told[value]) for name, value in re.findall(rf'\("([a-z0-9-]+)", {enumeration}::(\w+)\)', text))
+    return found
+
+
 def names():
     """Returns all kinds, in the order of their tables."""
     return [name for it in TABLES for name in names_of(it)]
@@ -36,6 +48,12 @@ def numbers():
 def of_bytes():
     """Returns the kinds of bytes."""
     return [name for it in TABLES if not it[2] for name in names_of(it)]
+
+
+def has_text(name):
+    """Whether libpuffgrit says what is in inputs of this kind, and if they are bytes why they are refused: of all but attestation
+    statements and structures of a TPM."""
+    return not name.startswith(("att-", "tpm-"))
 
 
 def of_show():

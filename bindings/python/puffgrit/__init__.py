@@ -14,24 +14,15 @@ from dataclasses import dataclass
 from pathlib import Path
 from typing import Iterator
 
+from ._kinds import DECODED, EXPLAINED, KINDS
+
 __all__ = [
-    "EXPLAINED", "KINDS", "AuthData", "Fault", "Item", "auth_parts", "decode", "decode_front", "elements", "explain", "is_canonical",
-    "item_at", "item_len", "member", "rewrite", "rewrite_front", "version",
+    "DECODED", "EXPLAINED", "KINDS", "AuthData", "Fault", "Item", "auth_parts", "decode", "decode_front", "elements", "explain",
+    "is_canonical", "item_at", "item_len", "member", "rewrite", "rewrite_front", "version",
 ]  # fmt: skip
 
 UNSIGNED, NEGATIVE, BYTES, TEXT, ARRAY, MAP, TAG, SIMPLE, FLOAT = range(9)
 INDEFINITE = 2**64 - 1
-
-#: The kinds of `rewrite`: of bytes, from `creation` to `client-data` of JSON texts, and then further ones of bytes.
-KINDS = (
-    "cbor auth mc-request mc-response ga-request ga-response info hmac-input creation request created authenticated client-data "
-    "pin-request pin-response bio-request bio-response cm-request cm-response lb-request lb-response lb-entry cfg-request "
-    "cfg-min-pin-length cfg-vendor cose-key info-23 mc-inputs mc-outputs mc-unsigned ga-inputs ga-outputs ga-unsigned att-packed att-tpm "
-    "att-android-key att-android-safetynet att-fido-u2f att-none att-apple att-compound tpm-cert-info tpm-pub-area"
-).split()
-
-#: The kinds of `explain`: data items, authenticator data, messages and keys.
-EXPLAINED = [*KINDS[:8], *KINDS[13:33]]
 
 _FAULTS = {
     16: "DecodeFailed",
@@ -274,7 +265,7 @@ def rewrite_front(kind: str, data: bytes) -> tuple[bytes, int]:
 
 
 def decode(kind: str, data: bytes) -> object:
-    """What is in the data, which is of the kind (one of `KINDS` up to `ga-unsigned`): a message, a key, authenticator data or a record
+    """What is in the data, which is of the kind (one of `DECODED`): a message, a key, authenticator data or a record
     as a dictionary.
 
     Members have their names, byte strings are base64url without padding, AAGUIDs are UUIDs, and algorithms have their names. Raises
@@ -285,7 +276,7 @@ def decode(kind: str, data: bytes) -> object:
 
 def decode_front(kind: str, data: bytes) -> tuple[object, int]:
     """What `decode` returns, and how many bytes of the data were decoded."""
-    _number(kind, KINDS[:33])
+    _number(kind, DECODED)
     text, read = _written(_library.puffgrit_json, kind, data)
     return json.loads(text), read
 

@@ -3,7 +3,10 @@
 //! `rewrite`, `json` and `explain` allocate, and free what they allocated.
 #![no_std]
 
+mod kind;
+
 use core::mem::MaybeUninit;
+pub use kind::Kind;
 
 /// A data item in bytes.
 #[repr(C)]
@@ -82,56 +85,6 @@ extern "C" {
         out_len: usize,
         len: *mut usize,
     ) -> u32;
-}
-
-/// What an input is decoded as: bytes, JSON texts from `Creation` to `ClientData`, and further kinds
-/// of bytes.
-#[repr(u32)]
-#[derive(Clone, Copy, Debug, PartialEq, Eq)]
-pub enum Kind {
-    Cbor = 1,
-    Auth,
-    MakeCredentialRequest,
-    MakeCredentialResponse,
-    GetAssertionRequest,
-    GetAssertionResponse,
-    Info,
-    HmacInput,
-    Creation,
-    Request,
-    Created,
-    Authenticated,
-    ClientData,
-    ClientPinRequest,
-    ClientPinResponse,
-    BioEnrollmentRequest,
-    BioEnrollmentResponse,
-    CredentialManagementRequest,
-    CredentialManagementResponse,
-    LargeBlobsRequest,
-    LargeBlobsResponse,
-    LargeBlobsEntry,
-    ConfigRequest,
-    ConfigMinPinLength,
-    ConfigVendor,
-    CoseKey,
-    Info23,
-    MakeCredentialInputs,
-    MakeCredentialOutputs,
-    MakeCredentialUnsigned,
-    GetAssertionInputs,
-    GetAssertionOutputs,
-    GetAssertionUnsigned,
-    PackedStatement,
-    TpmStatement,
-    AndroidKeyStatement,
-    AndroidSafetyNetStatement,
-    FidoU2fStatement,
-    NoneStatement,
-    AppleStatement,
-    CompoundStatement,
-    TpmCertInfo,
-    TpmPubArea,
 }
 
 /// What was decoded, and what was written of it.

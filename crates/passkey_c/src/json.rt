@@ -3,7 +3,9 @@ ghost use Rattle.std.specs.Prelude.{◌≡◌, IfOk, IfErr};
 ghost use Rattle.passkey_c.specs.Json.{HasNoFormJson, HasNoJson, IsDataJson, IsFormJson, IsItemJson, IsJson, IsKeyJson, IsMessageJson, ShowsJson};
 ghost use Rattle.passkey_catalogue.specs.Catalogue.{definition, kind_numbered};
 ghost use Rattle.passkey_catalogue.specs.Rewriting.{IsKeyRefusal};
+ghost use Rattle.passkey_explain.specs.Described.{described_of};
 ghost use Rattle.passkey_kinds.specs.Record.{read_item};
+ghost use Rattle.passkey_report.specs.Json.{json_text};
 ghost use Rattle.passkey_run.specs.Rewriting.{IsCborRefusal, IsDataRefusal, IsMessageRefusal};
 
 use crate::write::write;
@@ -12,12 +14,22 @@ use passkey_cbor::{CborError, Value};
 use passkey_core::AuthenticatorData;
 use passkey_cose::CoseKey;
 use passkey_describe_data::{describe_data, describe_item, describe_key};
-use passkey_explain::describe;
+use passkey_explain::{Description, describe};
 use passkey_explain_data::data_len;
 use passkey_kinds::{Fault, Message};
+use passkey_memory::OutOfMemory;
 use passkey_report::json_of;
 use passkey_run::{RunFault, Visitor};
 use std::alloc::Global;
+
+/// Returns the JSON of a description.
+fn description_json(alloc: Global, description: Description) -> Result<Vec<u8>, OutOfMemory>
+    ensures { IfOk result (λ text. text.items ≡ json_text (described_of description)) }
+{
+    let text = json_of(alloc, &description);
+    drop(description);
+    Ok(text?.into_bytes())
+}
 
 /// Returns the JSON of the message at the beginning of the bytes, and the message's length.
 fn message_json<M: Message>(alloc: Global, input: &[u8]) -> Result<(Vec<u8>, usize), RunFault>
@@ -30,9 +42,9 @@ fn message_json<M: Message>(alloc: Global, input: &[u8]) -> Result<(Vec<u8>, usi
         Err(_) => return Err(RunFault::MessageRefused(Fault::DecodeFailed)),
     };
     M::from_value(alloc, &value)?;
-    let description = describe::<M>(alloc, &value)?;
-    let text = json_of(alloc, &description)?;
-    Ok((text.into_bytes(), len))
+    let description = describe::<M>(alloc, &value);
+    drop(value);
+    Ok((description_json(alloc, description?)?, len))
 }
 
 /// Returns the JSON of the data item at the beginning of the bytes, and the item's length.
@@ -41,9 +53,9 @@ fn item_json(alloc: Global, input: &[u8]) -> Result<(Vec<u8>, usize), RunFault>
     ensures err { IfErr result (IsCborRefusal input.now) }
 {
     let (value, len) = Value::from_slice(alloc, input)?;
-    let description = describe_item(alloc, &value)?;
-    let text = json_of(alloc, &description)?;
-    Ok((text.into_bytes(), len))
+    let description = describe_item(alloc, &value);
+    drop(value);
+    Ok((description_json(alloc, description?)?, len))
 }
 
 /// Returns the JSON of the authenticator data at the beginning of the bytes, and how many of them
@@ -53,9 +65,9 @@ fn data_json(alloc: Global, input: &[u8]) -> Result<(Vec<u8>, usize), RunFault>
     ensures err { IfErr result (IsDataRefusal input.now) }
 {
     let data = AuthenticatorData::from_slice(alloc, input)?;
-    let description = describe_data(alloc, &data)?;
-    let text = json_of(alloc, &description)?;
-    Ok((text.into_bytes(), data_len(input)))
+    let description = describe_data(alloc, &data);
+    drop(data);
+    Ok((description_json(alloc, description?)?, data_len(input)))
 }
 
 /// Returns the JSON of the COSE key at the beginning of the bytes, and its length.
@@ -65,9 +77,9 @@ fn key_json(alloc: Global, input: &[u8]) -> Result<(Vec<u8>, usize), RunFault>
 {
     let (value, len) = Value::from_slice(alloc, input)?;
     CoseKey::from_value(alloc, &value)?;
-    let description = describe_key(alloc, &value)?;
-    let text = json_of(alloc, &description)?;
-    Ok((text.into_bytes(), len))
+    let description = describe_key(alloc, &value);
+    drop(value);
+    Ok((description_json(alloc, description?)?, len))
 }
 
 /// Returns the JSON of an input of this form. Returns `UnknownKind` for attestation statements and

@@ -1,5 +1,5 @@
 -- What an input of each kind is, and the kinds' names and numbers.
-use Rattle.std.specs.Prelude.{ℕ, List, false, Option, Some, None, option_map}
+use Rattle.std.specs.Prelude.{ℕ, Bool, List, false, true, Option, Some, None, option_map}
 use Rattle.passkey_attestation.specs.declared.format.AttestationFormat.TheVariants as format
 use Rattle.passkey_bio_enrollment.specs.BioRequest.{bio_request}
 use Rattle.passkey_bio_enrollment.specs.BioResponse.{bio_response}
@@ -110,3 +110,13 @@ kind_numbered n =
     or_else (option_map (λ k. kind.Bytes k) (value_from bytes_kinds 1 n))
     (or_else (option_map (λ k. kind.Json k) (value_from json_kinds 9 n))
     (option_map (λ k. kind.Further k) (value_from further_kinds 14 n)))
+
+-- the kind at this place in the list of all kinds: those with a number in C at their number, and the others from 200 on
+abbrev pub kind_at : ℕ → Option Kind
+kind_at n = or_else (kind_numbered n) (option_map (λ k. kind.FurtherJson k) (value_from further_json_kinds 200 n))
+
+abbrev pub is_json : Kind → Bool
+is_json (kind.Bytes k) = false
+is_json (kind.Further k) = false
+is_json (kind.Json k) = true
+is_json (kind.FurtherJson k) = true

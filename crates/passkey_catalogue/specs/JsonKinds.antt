@@ -39,6 +39,19 @@ pub further_json_own : (x : FurtherJsonKind)
 further_json_own kind.UnknownCredential = refl
 further_json_own _ = refl
 
+-- the standard that defines what inputs of the kind are, and its section
+abbrev pub further_json_source : FurtherJsonKind → List ℕ
+further_json_source kind.UnknownCredential = codes "WebAuthn Level 3, section 5.1.10.2"
+further_json_source kind.AcceptedCredentials = codes "WebAuthn Level 3, section 5.1.10.3"
+further_json_source kind.UserDetails = codes "WebAuthn Level 3, section 5.1.10.4"
+further_json_source kind.ClientInputs = codes "WebAuthn Level 3, section 9.3"
+further_json_source kind.ClientOutputs = codes "WebAuthn Level 3, section 9.4"
+further_json_source kind.MediatedCreation = codes "WebAuthn Level 3, section 5.1.3"
+further_json_source kind.MediatedRequest = codes "WebAuthn Level 3, section 5.1.4"
+further_json_source kind.TopOrigin = codes "WebAuthn Level 3, section 5.8.1"
+further_json_source kind.Payment = codes "Secure Payment Confirmation"
+further_json_source kind.Capabilities = codes "WebAuthn Level 3, section 5.1.7"
+
 -- client capabilities: an object of booleans (WebAuthn Level 3, section 5.1.7)
 abbrev pub capabilities_in : Data → Result (ByteMap Bool) Fault
 capabilities_in (object ms) = ok_or ((map_value truth_value).kind (object ms)) (refused (codes "capabilities"))

@@ -1,5 +1,5 @@
--- The kinds of bytes, by their names.
-use Rattle.std.specs.Prelude.{◌≡◌, [], ◌∷◌, Some, codes, refl}
+-- The kinds of bytes, by their names, and where they are defined.
+use Rattle.std.specs.Prelude.{◌≡◌, ℕ, List, [], ◌∷◌, Some, codes, refl}
 use Rattle.passkey_catalogue.specs.contracts.further_kind.FurtherKind.{the_type}
 use Rattle.passkey_catalogue.specs.declared.further_kind.FurtherKind.{FurtherKind}
 use Rattle.passkey_catalogue.specs.declared.further_kind.FurtherKind.TheVariants as kind
@@ -41,3 +41,36 @@ further_kinds = (codes "pin-request", kind.PinRequest)
 pub further_own : (x : FurtherKind) → value_in further_kinds (own_name the_type further_kinds x) ≡ Some x
 further_own kind.PinRequest = refl
 further_own _ = refl
+
+-- the standard that defines what inputs of the kind are, and its section
+abbrev pub further_source : FurtherKind → List ℕ
+further_source kind.PinRequest = codes "CTAP 2.1, section 6.5"
+further_source kind.PinResponse = codes "CTAP 2.1, section 6.5"
+further_source kind.BioRequest = codes "CTAP 2.1, section 6.7"
+further_source kind.BioResponse = codes "CTAP 2.1, section 6.7"
+further_source kind.CredentialRequest = codes "CTAP 2.1, section 6.8"
+further_source kind.CredentialResponse = codes "CTAP 2.1, section 6.8"
+further_source kind.BlobsRequest = codes "CTAP 2.1, section 6.10"
+further_source kind.BlobsResponse = codes "CTAP 2.1, section 6.10"
+further_source kind.BlobsEntry = codes "CTAP 2.1, section 6.10.3"
+further_source kind.ConfigRequest = codes "CTAP 2.1, section 6.11"
+further_source kind.ConfigMinPinLength = codes "CTAP 2.1, section 6.11.4"
+further_source kind.ConfigVendor = codes "CTAP 2.1, section 6.11.5"
+further_source kind.Key = codes "RFC 9052, section 7"
+further_source kind.Info23 = codes "CTAP 2.3, section 6.4"
+further_source kind.MakeInputs = codes "CTAP 2.3, section 6.1"
+further_source kind.MakeOutputs = codes "WebAuthn Level 3, section 6.1"
+further_source kind.MakeUnsigned = codes "CTAP 2.3, section 6.1"
+further_source kind.GetInputs = codes "CTAP 2.3, section 6.2"
+further_source kind.GetOutputs = codes "WebAuthn Level 3, section 6.1"
+further_source kind.GetUnsigned = codes "CTAP 2.3, section 6.2"
+further_source kind.PackedStatement = codes "WebAuthn Level 3, section 8.2"
+further_source kind.TpmStatement = codes "WebAuthn Level 3, section 8.3"
+further_source kind.AndroidKeyStatement = codes "WebAuthn Level 3, section 8.4"
+further_source kind.SafetyNetStatement = codes "WebAuthn Level 3, section 8.5"
+further_source kind.FidoU2fStatement = codes "WebAuthn Level 3, section 8.6"
+further_source kind.NoneStatement = codes "WebAuthn Level 3, section 8.7"
+further_source kind.AppleStatement = codes "WebAuthn Level 3, section 8.8"
+further_source kind.CompoundStatement = codes "WebAuthn Level 3, section 8.9"
+further_source kind.CertInfo = codes "TPM 2.0 Library, Part 2"
+further_source kind.PubArea = codes "TPM 2.0 Library, Part 2"

@@ -3,3 +3,4 @@ pub mod JsonKinds
 pub mod Kinds
 pub mod Numbers
 pub mod Rewriting
+pub mod Sources

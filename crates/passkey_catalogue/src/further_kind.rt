@@ -1,5 +1,6 @@
 //! The kinds of bytes that `passkey_show` doesn't have.
-ghost use Rattle.passkey_catalogue.specs.Kinds.{further_kinds, further_own};
+ghost use Rattle.std.specs.Prelude.{◌≡◌};
+ghost use Rattle.passkey_catalogue.specs.Kinds.{further_kinds, further_own, further_source};
 
 use passkey_webauthn::EnumNames;
 
@@ -106,5 +107,35 @@ impl EnumNames for FurtherKind {
             ("tpm-cert-info", FurtherKind::CertInfo),
             ("tpm-pub-area", FurtherKind::PubArea),
         ]
+    }
+}
+
+/// The standard that defines what inputs of this kind are, and its section.
+pub(crate) fn further_source(kind: FurtherKind) -> &'static str
+    ensures { result.now ≡ further_source kind }
+{
+    match kind {
+        FurtherKind::PinRequest | FurtherKind::PinResponse => "CTAP 2.1, section 6.5",
+        FurtherKind::BioRequest | FurtherKind::BioResponse => "CTAP 2.1, section 6.7",
+        FurtherKind::CredentialRequest | FurtherKind::CredentialResponse => "CTAP 2.1, section 6.8",
+        FurtherKind::BlobsRequest | FurtherKind::BlobsResponse => "CTAP 2.1, section 6.10",
+        FurtherKind::BlobsEntry => "CTAP 2.1, section 6.10.3",
+        FurtherKind::ConfigRequest => "CTAP 2.1, section 6.11",
+        FurtherKind::ConfigMinPinLength => "CTAP 2.1, section 6.11.4",
+        FurtherKind::ConfigVendor => "CTAP 2.1, section 6.11.5",
+        FurtherKind::Key => "RFC 9052, section 7",
+        FurtherKind::Info23 => "CTAP 2.3, section 6.4",
+        FurtherKind::MakeInputs | FurtherKind::MakeUnsigned => "CTAP 2.3, section 6.1",
+        FurtherKind::MakeOutputs | FurtherKind::GetOutputs => "WebAuthn Level 3, section 6.1",
+        FurtherKind::GetInputs | FurtherKind::GetUnsigned => "CTAP 2.3, section 6.2",
+        FurtherKind::PackedStatement => "WebAuthn Level 3, section 8.2",
+        FurtherKind::TpmStatement => "WebAuthn Level 3, section 8.3",
+        FurtherKind::AndroidKeyStatement => "WebAuthn Level 3, section 8.4",
+        FurtherKind::SafetyNetStatement => "WebAuthn Level 3, section 8.5",
+        FurtherKind::FidoU2fStatement => "WebAuthn Level 3, section 8.6",
+        FurtherKind::NoneStatement => "WebAuthn Level 3, section 8.7",
+        FurtherKind::AppleStatement => "WebAuthn Level 3, section 8.8",
+        FurtherKind::CompoundStatement => "WebAuthn Level 3, section 8.9",
+        FurtherKind::CertInfo | FurtherKind::PubArea => "TPM 2.0 Library, Part 2",
     }
 }

@@ -1,5 +1,6 @@
 //! The kinds of JSON texts that `passkey_show` doesn't have.
-ghost use Rattle.passkey_catalogue.specs.JsonKinds.{further_json_kinds, further_json_own};
+ghost use Rattle.std.specs.Prelude.{◌≡◌};
+ghost use Rattle.passkey_catalogue.specs.JsonKinds.{further_json_kinds, further_json_own, further_json_source};
 
 use passkey_webauthn::EnumNames;
 
@@ -46,5 +47,23 @@ impl EnumNames for FurtherJsonKind {
             ("client-data-payment", FurtherJsonKind::Payment),
             ("capabilities", FurtherJsonKind::Capabilities),
         ]
+    }
+}
+
+/// The standard that defines what inputs of this kind are, and its section.
+pub(crate) fn further_json_source(kind: FurtherJsonKind) -> &'static str
+    ensures { result.now ≡ further_json_source kind }
+{
+    match kind {
+        FurtherJsonKind::UnknownCredential => "WebAuthn Level 3, section 5.1.10.2",
+        FurtherJsonKind::AcceptedCredentials => "WebAuthn Level 3, section 5.1.10.3",
+        FurtherJsonKind::UserDetails => "WebAuthn Level 3, section 5.1.10.4",
+        FurtherJsonKind::ClientInputs => "WebAuthn Level 3, section 9.3",
+        FurtherJsonKind::ClientOutputs => "WebAuthn Level 3, section 9.4",
+        FurtherJsonKind::MediatedCreation => "WebAuthn Level 3, section 5.1.3",
+        FurtherJsonKind::MediatedRequest => "WebAuthn Level 3, section 5.1.4",
+        FurtherJsonKind::TopOrigin => "WebAuthn Level 3, section 5.8.1",
+        FurtherJsonKind::Payment => "Secure Payment Confirmation",
+        FurtherJsonKind::Capabilities => "WebAuthn Level 3, section 5.1.7",
     }
 }

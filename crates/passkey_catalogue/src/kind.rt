@@ -1,6 +1,6 @@
 //! All kinds of input.
 ghost use Rattle.std.specs.Prelude.{◌≡◌};
-ghost use Rattle.passkey_catalogue.specs.Catalogue.{kind_named, kind_numbered, name_of};
+ghost use Rattle.passkey_catalogue.specs.Catalogue.{is_json, kind_at, kind_named, kind_numbered, name_of};
 ghost use Rattle.passkey_catalogue.specs.Numbers.{value_from};
 
 use crate::further_kind::FurtherKind;
@@ -82,6 +82,30 @@ impl Kind {
         match placed::<FurtherKind>(number, 14) {
             Some(kind) => Some(Kind::Further(kind)),
             None => None,
+        }
+    }
+
+    /// Returns the kind at this place in the list of all kinds: a kind with a number in C is at its
+    /// number, and the other JSON texts are from 200 on. Returns `None` at other places.
+    pub fn at(place: usize) -> Option<Kind>
+        ensures { result ≡ kind_at place }
+    {
+        if let Some(kind) = Kind::from_number(place) {
+            return Some(kind);
+        }
+        match placed::<FurtherJsonKind>(place, 200) {
+            Some(kind) => Some(Kind::FurtherJson(kind)),
+            None => None,
+        }
+    }
+
+    /// Whether inputs of this kind are JSON texts, and not bytes.
+    pub fn is_json(self) -> bool
+        ensures { result ≡ is_json self }
+    {
+        match self {
+            Kind::Bytes(_) | Kind::Further(_) => false,
+            Kind::Json(_) | Kind::FurtherJson(_) => true,
         }
     }
 }

@@ -13,6 +13,7 @@ mod json_kind;
 mod key;
 mod kind;
 mod rewriting;
+mod source;
 mod statement;
 mod structure;
 mod visiting;

@@ -48,7 +48,11 @@ pub fn accepted(alloc: Global, description: Description, len: usize) -> Examined
 
 fn examine_item(alloc: Global, bytes: &[u8]) -> Result<Examined, OutOfMemory> {
     match Value::from_slice(alloc, bytes) {
-        Ok((value, len)) => Ok(accepted(alloc, describe_item(alloc, &value)?, len)),
+        Ok((value, len)) => {
+            let description = describe_item(alloc, &value);
+            drop(value);
+            Ok(accepted(alloc, description?, len))
+        }
         Err(error) => cbor_refused(alloc, bytes, error),
     }
 }
@@ -58,20 +62,37 @@ fn examine_data(alloc: Global, bytes: &[u8]) -> Result<Examined, OutOfMemory> {
         return data_refused(alloc, refusal);
     }
     match AuthenticatorData::from_slice_exact(alloc, bytes) {
-        Ok(parts) => Ok(accepted(alloc, describe_data(alloc, &parts)?, bytes.len())),
+        Ok(parts) => {
+            let description = describe_data(alloc, &parts);
+            drop(parts);
+            Ok(accepted(alloc, description?, bytes.len()))
+        }
         Err(error) => refused(alloc, error),
     }
 }
 
-fn examine_key(alloc: Global, bytes: &[u8]) -> Result<Examined, OutOfMemory> {
-    let (value, len) = match Value::from_slice(alloc, bytes) {
-        Ok(front) => front,
-        Err(error) => return cbor_refused(alloc, bytes, error),
-    };
-    if let Some(refusal) = explain_key(alloc, &value)? {
+/// Examines a key, the data item of this length at the beginning of the bytes.
+fn examine_key_item(
+    alloc: Global,
+    bytes: &[u8],
+    value: &Value,
+    len: usize,
+) -> Result<Examined, OutOfMemory> {
+    if let Some(refusal) = explain_key(alloc, value)? {
         return key_refused(alloc, bytes, refusal);
     }
-    Ok(accepted(alloc, describe_key(alloc, &value)?, len))
+    Ok(accepted(alloc, describe_key(alloc, value)?, len))
+}
+
+fn examine_key(alloc: Global, bytes: &[u8]) -> Result<Examined, OutOfMemory> {
+    match Value::from_slice(alloc, bytes) {
+        Ok((value, len)) => {
+            let examined = examine_key_item(alloc, bytes, &value, len);
+            drop(value);
+            examined
+        }
+        Err(error) => cbor_refused(alloc, bytes, error),
+    }
 }
 
 /// Returns a line for each data item that the message leaves out.
@@ -82,22 +103,51 @@ fn left_out<M: Message>(alloc: Global, bytes: &[u8]) -> Result<String, OutOfMemo
     }
 }
 
+/// Describes what is in a message, with authenticator data and keys opened.
+fn described<M: Message>(alloc: Global, value: &Value) -> Result<Description, OutOfMemory> {
+    let description = describe::<M>(alloc, value)?;
+    let opened = opened(alloc, &description);
+    drop(description);
+    opened
+}
+
 /// Examines a message. No bytes are an empty map, as in the body of a request or a response
 /// (CTAP 2.1, section 8).
 fn examine_message<M: Message>(alloc: Global, bytes: &[u8]) -> Result<Examined, OutOfMemory> {
     if let Some(explanation) = explain::<M>(alloc, bytes)? {
-        return message_refused::<M>(alloc, bytes, &explanation);
+        let refused = message_refused::<M>(alloc, bytes, &explanation);
+        drop(explanation);
+        return refused;
     }
+    let left_out = left_out::<M>(alloc, bytes)?;
     match Value::from_slice(alloc, bytes) {
         Ok((value, len)) => {
-            let description = describe::<M>(alloc, &value)?;
+            let description = described::<M>(alloc, &value);
+            drop(value);
             Ok(Examined::Accepted(Contents {
-                description: opened(alloc, &description)?,
+                description: description?,
                 len,
-                left_out: left_out::<M>(alloc, bytes)?,
+                left_out,
             }))
         }
         Err(error) => cbor_refused(alloc, bytes, error),
+    }
+}
+
+/// Examines an attestation statement of this format, the data item of this length.
+fn examine_statement_item(
+    alloc: Global,
+    format: AttestationFormat,
+    value: &Value,
+    len: usize,
+) -> Result<Examined, OutOfMemory> {
+    match AttestationStatement::from_value(alloc, format.name(), value) {
+        Ok(statement) => {
+            drop(statement);
+            Ok(accepted(alloc, describe_item(alloc, value)?, len))
+        }
+        Err(StatementFault::OutOfMemory) => Err(OutOfMemory),
+        Err(fault) => Ok(Examined::Refused(format!(in alloc; "{fault}")?, None)),
     }
 }
 
@@ -107,14 +157,13 @@ fn examine_statement(
     format: AttestationFormat,
     bytes: &[u8],
 ) -> Result<Examined, OutOfMemory> {
-    let (value, len) = match Value::from_slice(alloc, bytes) {
-        Ok(front) => front,
-        Err(error) => return cbor_refused(alloc, bytes, error),
-    };
-    match AttestationStatement::from_value(alloc, format.name(), &value) {
-        Ok(_) => Ok(accepted(alloc, describe_item(alloc, &value)?, len)),
-        Err(StatementFault::OutOfMemory) => Err(OutOfMemory),
-        Err(fault) => Ok(Examined::Refused(format!(in alloc; "{fault}")?, None)),
+    match Value::from_slice(alloc, bytes) {
+        Ok((value, len)) => {
+            let examined = examine_statement_item(alloc, format, &value, len);
+            drop(value);
+            examined
+        }
+        Err(error) => cbor_refused(alloc, bytes, error),
     }
 }
 

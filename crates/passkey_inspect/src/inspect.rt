@@ -52,40 +52,40 @@ fn fits(description: &Description) -> bool {
     }
 }
 
-/// Adds a kind, as the best if it fits better than those before.
+/// Adds a kind that accepts all of the bytes and knows more than half of the members, as the best if it
+/// fits better than those before.
 fn add_match(
     matches: &mut Matches,
-    name: &'static str,
     kind: InspectKind,
     contents: Contents,
+    len: usize,
 ) -> Result<(), OutOfMemory> {
+    if contents.len < len || !fits(&contents.description) {
+        drop(contents);
+        return Ok(());
+    }
     let is_better = match &matches.best {
         None => true,
         Some((_, best)) => score_of(&best.description) < score_of(&contents.description),
     };
     if is_better {
-        matches.names.insert(0, name)?;
-        matches.best = Some((kind, contents));
+        drop(matches.best.replace((kind, contents)));
+        matches.names.insert(0, name_of(kind))?;
     } else {
-        matches.names.push(name)?;
+        drop(contents);
+        matches.names.push(name_of(kind))?;
     }
     Ok(())
 }
 
-/// Returns the kinds that accept all of the bytes and know more than half of the members.
-fn matches_of(alloc: Global, bytes: &[u8]) -> Result<Matches, OutOfMemory> {
-    let mut matches = Matches {
-        names: Vec::new(alloc),
-        best: None,
-    };
+/// Adds the kinds that accept the bytes.
+fn add_matches(alloc: Global, bytes: &[u8], matches: &mut Matches) -> Result<(), OutOfMemory> {
     for kind in FOUND_KINDS {
         if let Examined::Accepted(contents) = examine(alloc, kind, bytes)? {
-            if contents.len >= bytes.len() && fits(&contents.description) {
-                add_match(&mut matches, name_of(kind), kind, contents)?;
-            }
+            add_match(matches, kind, contents, bytes.len())?;
         }
     }
-    Ok(matches)
+    Ok(())
 }
 
 /// Returns the message encoded again, in lower-case hexadecimal.
@@ -157,16 +157,26 @@ pub(crate) fn with_line_feed(mut text: String) -> Result<String, RunFault>
     Ok(text)
 }
 
-/// Appends a report of the message, and what is left out of it.
-fn push_report(
+/// Appends a report of the message under this title, and what is left out of it.
+pub(crate) fn push_report(
     text: &mut String,
     alloc: Global,
-    kind: InspectKind,
+    title: &str,
     contents: &Contents,
 ) -> Result<(), OutOfMemory> {
-    text.push_str(report_of(alloc, name_of(kind), &contents.description)?.as_str())?;
-    text.push_str(newer_members_text(alloc, kind, &contents.description)?.as_str())?;
+    text.push_str(report_of(alloc, title, &contents.description)?.as_str())?;
+    text.push_str(newer_members_text(alloc, title, &contents.description)?.as_str())?;
     Ok(text.push_str(contents.left_out.as_str())?)
+}
+
+/// Appends a line with the names of the kinds that were found.
+pub(crate) fn push_names(text: &mut String, names: &[&'static str]) -> Result<(), OutOfMemory> {
+    text.push_str("kinds:")?;
+    for name in names {
+        text.push(' ')?;
+        text.push_str(name)?;
+    }
+    Ok(text.push('\n')?)
 }
 
 /// Returns a report of the message, with the lines before it.
@@ -178,7 +188,7 @@ fn report_text(
 ) -> Result<String, OutOfMemory> {
     let len = contents.len;
     let mut text = heading(alloc, body)?;
-    push_report(&mut text, alloc, kind, contents)?;
+    push_report(&mut text, alloc, name_of(kind), contents)?;
     if let Ok(encoding) = encode(alloc, kind, body.bytes) {
         if encoding.as_slice() != body.bytes.get(..len).unwrap_or(&[]) {
             text.push_str("encoded again it differs: --cbor shows it\n")?;
@@ -246,7 +256,11 @@ fn print_as(
     ensures { IfOk result (λ text. Prints output kind body.now.bytes.now (string_bytes text)) }
 {
     match examine(alloc, kind, body.bytes)? {
-        Examined::Accepted(contents) => Ok(text_of(alloc, output, body, kind, &contents)?),
+        Examined::Accepted(contents) => {
+            let text = text_of(alloc, output, body, kind, &contents);
+            drop(contents);
+            Ok(text?)
+        }
         Examined::Refused(text, extent) if output == Output::Page => {
             Err(refused_page(alloc, body, kind, text.as_str(), extent)?)
         }
@@ -265,13 +279,8 @@ fn report_found(
     contents: &Contents,
 ) -> Result<String, OutOfMemory> {
     let mut text = heading(alloc, body)?;
-    text.push_str("kinds:")?;
-    for name in &matches.names {
-        text.push(' ')?;
-        text.push_str(name)?;
-    }
-    text.push('\n')?;
-    push_report(&mut text, alloc, kind, contents)?;
+    push_names(&mut text, matches.names.as_slice())?;
+    push_report(&mut text, alloc, name_of(kind), contents)?;
     Ok(text)
 }
 
@@ -284,11 +293,15 @@ fn is_frame_alone(body: &Body<'_>) -> bool {
     }
 }
 
-/// Returns what is printed of a message of which the kind is to be found.
-fn print_found(alloc: Global, output: Output, body: &Body<'_>) -> Result<String, InspectFault>
+/// Returns what is printed of a message as the best of the kinds, or as a data item if there is none.
+fn print_best(
+    alloc: Global,
+    output: Output,
+    body: &Body<'_>,
+    matches: &Matches,
+) -> Result<String, InspectFault>
     ensures { IfOk result (λ text. PrintsAs output body.now.bytes.now (string_bytes text)) }
 {
-    let matches = matches_of(alloc, body.bytes)?;
     let Some((kind, contents)) = &matches.best else {
         return match output {
             Output::Report if is_frame_alone(body) => Ok(heading(alloc, body)?),
@@ -296,9 +309,25 @@ fn print_found(alloc: Global, output: Output, body: &Body<'_>) -> Result<String,
         };
     };
     match output {
-        Output::Report => Ok(report_found(alloc, body, &matches, *kind, contents)?),
+        Output::Report => Ok(report_found(alloc, body, matches, *kind, contents)?),
         _ => print_as(alloc, output, body, *kind),
     }
+}
+
+/// Returns what is printed of a message of which the kind is to be found.
+fn print_found(alloc: Global, output: Output, body: &Body<'_>) -> Result<String, InspectFault>
+    ensures { IfOk result (λ text. PrintsAs output body.now.bytes.now (string_bytes text)) }
+{
+    let mut matches = Matches {
+        names: Vec::new(alloc),
+        best: None,
+    };
+    let text = match add_matches(alloc, body.bytes, &mut matches) {
+        Ok(()) => print_best(alloc, output, body, &matches),
+        Err(error) => Err(InspectFault::from(error)),
+    };
+    drop(matches);
+    text
 }
 
 /// Returns what stands before a message, and lends the message, which is all of the bytes if its kind

@@ -9,6 +9,7 @@ mod fault;
 mod frame;
 mod inspect;
 mod kind;
+mod kinds;
 mod nearest;
 mod newer_members;
 mod options;
@@ -18,6 +19,7 @@ mod status_name;
 mod structure;
 
 use fault::InspectFault;
+use kinds::all_kinds_text;
 use nearest::{no_file, no_kind};
 use options::{HELP, Options, VERSION, options_of};
 use passkey_run::{RunFault, read_all, read_words, write_all};
@@ -56,6 +58,10 @@ fn show<R: Env + Files + AllocGlobal>(
     }
     if options.version {
         return Ok(write_all(writer, VERSION.as_bytes())?);
+    }
+    if options.kinds {
+        let text = all_kinds_text(rt.alloc())?;
+        return Ok(write_all(writer, text.as_bytes())?);
     }
     if let Some(word) = options.stray {
         return Err(no_kind(rt.alloc(), word)?);

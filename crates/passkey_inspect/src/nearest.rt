@@ -1,54 +1,28 @@
 //! Which kind a name that is none's may have meant.
 
 use crate::fault::InspectFault;
-use passkey_catalogue::{FurtherJsonKind, FurtherKind};
+use crate::kinds::LAST;
+use passkey_catalogue::Kind;
 use passkey_memory::OutOfMemory;
-use passkey_run::{BytesKind, JsonKind};
-use passkey_webauthn::EnumNames;
 use std::alloc::Global;
 use strsim::osa_distance;
 
 /// The number of letters in which a name has to differ from a kind's not to be near it.
 const FAR: usize = 3;
 
-/// The nearest of the names so far, and in how many letters it differs.
-#[derive(Drop)]
-struct Nearest<'a> {
-    word: &'a str,
-    name: &'static str,
-    distance: usize,
-}
-
-impl Nearest<'_> {
-    /// Takes the name of one of these kinds, if it is nearer than those before.
-    fn compare<T: EnumNames>(&mut self, alloc: Global) -> Result<(), OutOfMemory> {
-        for (name, _) in T::table() {
-            let distance = osa_distance(alloc, self.word, name)?;
-            if distance < self.distance {
-                self.name = name;
-                self.distance = distance;
-            }
-        }
-        Ok(())
-    }
-}
-
 /// Returns the kind's name that is nearest to this one, if one differs in few letters.
 fn nearest_name(alloc: Global, word: &str) -> Result<Option<&'static str>, OutOfMemory> {
-    let mut nearest = Nearest {
-        word,
-        name: "",
-        distance: FAR,
-    };
-    nearest.compare::<BytesKind>(alloc)?;
-    nearest.compare::<JsonKind>(alloc)?;
-    nearest.compare::<FurtherKind>(alloc)?;
-    nearest.compare::<FurtherJsonKind>(alloc)?;
-    Ok(if nearest.distance < FAR {
-        Some(nearest.name)
-    } else {
-        None
-    })
+    let (mut nearest, mut least) = (None, FAR);
+    for place in 1..=LAST {
+        let Some(kind) = Kind::at(place) else {
+            continue;
+        };
+        let distance = osa_distance(alloc, word, kind.name())?;
+        if distance < least {
+            (nearest, least) = (Some(kind.name()), distance);
+        }
+    }
+    Ok(nearest)
 }
 
 /// Returns a text that says what the name isn't, and which kind is near, or where kinds are listed.

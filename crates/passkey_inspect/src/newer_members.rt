@@ -1,6 +1,5 @@
 //! Members of authenticatorGetInfo responses that the port's kind doesn't have.
 
-use crate::kind::InspectKind;
 use passkey_cbor::Value;
 use passkey_explain::{Description, FieldName};
 use passkey_memory::OutOfMemory;
@@ -18,17 +17,20 @@ fn newer_number(name: &FieldName) -> Option<i128> {
     }
 }
 
-/// Returns a line that names the members which `info` doesn't have and `info-23` has, or no text.
+/// Returns a line that names the members which `info`, if this is the report's title, doesn't have and
+/// `info-23` has, or no text.
 pub fn newer_members_text(
     alloc: Global,
-    kind: InspectKind,
+    title: &str,
     description: &Description,
 ) -> Result<String, OutOfMemory> {
     let mut text = String::new(alloc);
-    let (InspectKind::Bytes(BytesKind::Info), Description::Record(fields)) = (kind, description)
-    else {
+    let Description::Record(fields) = description else {
         return Ok(text);
     };
+    if title != BytesKind::Info.name() {
+        return Ok(text);
+    }
     for (name, _) in fields {
         if let Some(number) = newer_number(name) {
             text.push_str(if text.is_empty() {

@@ -17,6 +17,7 @@ xxd and hexdump -C dump it), base64, base64url, JSON and raw bytes.
   --cbor        encoded again, in hexadecimal           passkey_inspect --cbor info FILE
   --html        a page: members beside their bytes      passkey_inspect --html FILE >page.html
   --from FORM   hex, base64, raw or json                passkey_inspect --from raw auth FILE
+  --kinds       the kinds: name, number in C, form and standard, tabs between
   -h, --help    this text
   --version     the version
 
@@ -103,6 +104,8 @@ pub struct Options<'a> {
     pub help: bool,
     /// Whether the version is printed instead.
     pub version: bool,
+    /// Whether the list of kinds is printed instead.
+    pub kinds: bool,
 }
 
 fn form_named(name: &str) -> Option<Form> {
@@ -126,6 +129,7 @@ fn set_option(options: &mut Options<'_>, word: &str) -> bool {
         "--html" => options.output = Output::Page,
         "-h" | "--help" => options.help = true,
         "--version" => options.version = true,
+        "--kinds" => options.kinds = true,
         _ => return false,
     }
     true
@@ -164,6 +168,7 @@ pub fn options_of(words: &[String]) -> Option<Options<'_>> {
         form: None,
         help: false,
         version: false,
+        kinds: false,
     };
     let mut takes_form = false;
     for word in words {

@@ -4,7 +4,7 @@ ghost use Rattle.passkey_inspect.specs.Prints.{PrintsRecord, RewritesText, visib
 
 use crate::examine::{Examined, examine};
 use crate::fault::InspectFault;
-use crate::inspect::with_line_feed;
+use crate::inspect::{push_names, push_report, with_line_feed};
 use crate::kind::{FOUND_JSON_KINDS, InspectKind, name_of};
 use crate::options::{Options, Output};
 use passkey_bytes::{Bytes, BytesFault};
@@ -14,7 +14,6 @@ use passkey_diagnose::escape_controls;
 use passkey_explain_json::{JsonExplanation, explain_client_data, explain_json};
 use passkey_memory::OutOfMemory;
 use passkey_options::{CredentialCreationOptions, CredentialRequestOptions};
-use passkey_report::report_of;
 use passkey_run::{BytesKind, JsonKind, RunFault, parse_json, rewrite_json};
 use serde_json::Value;
 use std::alloc::Global;
@@ -59,8 +58,9 @@ fn push_bytes(
     match examine(alloc, InspectKind::Bytes(kind), bytes.as_slice())? {
         Examined::Accepted(contents) => {
             let title = path.rsplit('/').next().unwrap_or(path);
-            out.push_str(report_of(alloc, title, &contents.description)?.as_str())?;
-            Ok(out.push_str(contents.left_out.as_str())?)
+            let pushed = push_report(out, alloc, title, &contents);
+            drop(contents);
+            pushed
         }
         Examined::Refused(_, _) => Ok(()),
     }
@@ -72,10 +72,32 @@ fn push_client_data(out: &mut String, alloc: Global, value: &Value) -> Result<()
         return Ok(());
     };
     match parse_json(alloc, bytes.as_slice()) {
-        Ok(client_data) => push_value(out, alloc, "clientDataJSON", &client_data),
+        Ok(client_data) => {
+            let pushed = push_value(out, alloc, "clientDataJSON", &client_data);
+            drop(client_data);
+            pushed
+        }
         Err(RunFault::OutOfMemory) => Err(OutOfMemory),
         Err(_) => Ok(()),
     }
+}
+
+/// Appends the JSON value, and what is in a credential's byte strings.
+fn push_record(
+    out: &mut String,
+    alloc: Global,
+    kind: InspectKind,
+    value: &Value,
+) -> Result<(), OutOfMemory> {
+    push_value(out, alloc, name_of(kind), value)?;
+    if let InspectKind::Json(JsonKind::Created | JsonKind::Authenticated) = kind {
+        push_client_data(out, alloc, value)?;
+        let object = "/response/attestationObject";
+        push_bytes(out, alloc, value, object, BytesKind::MakeResponse)?;
+        let data = "/response/authenticatorData";
+        push_bytes(out, alloc, value, data, BytesKind::Auth)?;
+    }
+    Ok(())
 }
 
 /// Returns a report: the JSON value, and what is in a credential's byte strings.
@@ -85,25 +107,15 @@ fn report(
     names: &[&'static str],
     input: &[u8],
 ) -> Result<String, InspectFault> {
-    let value = parse_json(alloc, input)?;
     let len = input.len();
     let mut text = format!(in alloc; "input: JSON, {len} bytes\n")?;
     if !names.is_empty() {
-        text.push_str("kinds:")?;
-        for name in names {
-            text.push(' ')?;
-            text.push_str(name)?;
-        }
-        text.push('\n')?;
+        push_names(&mut text, names)?;
     }
-    push_value(&mut text, alloc, name_of(kind), &value)?;
-    if let InspectKind::Json(JsonKind::Created | JsonKind::Authenticated) = kind {
-        push_client_data(&mut text, alloc, &value)?;
-        let object = "/response/attestationObject";
-        push_bytes(&mut text, alloc, &value, object, BytesKind::MakeResponse)?;
-        let data = "/response/authenticatorData";
-        push_bytes(&mut text, alloc, &value, data, BytesKind::Auth)?;
-    }
+    let value = parse_json(alloc, input)?;
+    let pushed = push_record(&mut text, alloc, kind, &value);
+    drop(value);
+    pushed?;
     Ok(text)
 }
 
@@ -130,7 +142,9 @@ fn kind_blame(alloc: Global, kind: InspectKind, value: &Value) -> Result<String,
     match explain_kind(alloc, kind, value)? {
         Some(explanation) => {
             let blame = &explanation.blame;
-            Ok(format!(in alloc; "\n{blame}")?)
+            let text = format!(in alloc; "\n{blame}");
+            drop(explanation);
+            Ok(text?)
         }
         None => Ok(String::new(alloc)),
     }
@@ -145,7 +159,10 @@ fn refused(
 ) -> Result<InspectFault, InspectFault> {
     match fault {
         RunFault::JsonRefused(fault) => {
-            let blame = kind_blame(alloc, kind, &parse_json(alloc, input)?)?;
+            let value = parse_json(alloc, input)?;
+            let blame = kind_blame(alloc, kind, &value);
+            drop(value);
+            let blame = blame?;
             let text = format!(in alloc; "{fault}{blame}")?;
             let text = escape_controls(alloc, text.as_str())?;
             Ok(InspectFault::refused(alloc, name_of(kind), text.as_str())?)

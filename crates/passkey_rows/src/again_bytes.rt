@@ -97,7 +97,9 @@ fn replace_key_by_item(
             key.to_value(alloc)?
         }
     };
-    match CoseKey::from_value(alloc, &item) {
+    let other = CoseKey::from_value(alloc, &item);
+    drop(item);
+    match other {
         Ok(other) => *key = other,
         Err(CoseError::OutOfMemory) => return Err(OutOfMemory),
         Err(_) => tries.compare(false),
@@ -254,11 +256,18 @@ pub fn encoded_item(
     }
 }
 
+/// Replaces the data item by a copy, and encodes it.
+fn copied_item(alloc: Global, tries: &mut Tries, item: &mut Value) -> Result<Vec<u8>, OutOfMemory> {
+    tries.replace_equal(alloc, item)?;
+    encoded_item(alloc, tries, item)
+}
+
 /// Decodes a data item, replaces it by a copy, and encodes it.
 pub fn item_again(alloc: Global, tries: &mut Tries, bytes: &[u8]) -> Result<Vec<u8>, RunFault> {
     let (mut item, _len) = Value::from_slice(alloc, bytes)?;
-    tries.replace_equal(alloc, &mut item)?;
-    Ok(encoded_item(alloc, tries, &item)?)
+    let encoding = copied_item(alloc, tries, &mut item);
+    drop(item);
+    Ok(encoding?)
 }
 
 /// Returns the encoding of authenticator data, and tries again if memory ran out.
@@ -276,10 +285,21 @@ pub fn data_again(
     }
 }
 
+/// Replaces parts of the authenticator data by copies, and encodes the result.
+fn copied_data(
+    alloc: Global,
+    tries: &mut Tries,
+    data: &mut AuthenticatorData,
+) -> Result<Vec<u8>, OutOfMemory> {
+    replace_attested(alloc, tries, data)?;
+    tries.replace_some(alloc, &mut data.extensions)?;
+    data_again(alloc, tries, data)
+}
+
 /// Decodes authenticator data, replaces parts by copies, and encodes the result.
 pub fn auth_again(alloc: Global, tries: &mut Tries, bytes: &[u8]) -> Result<Vec<u8>, RunFault> {
     let mut data = AuthenticatorData::from_slice(alloc, bytes)?;
-    replace_attested(alloc, tries, &mut data)?;
-    tries.replace_some(alloc, &mut data.extensions)?;
-    Ok(data_again(alloc, tries, &data)?)
+    let encoding = copied_data(alloc, tries, &mut data);
+    drop(data);
+    Ok(encoding?)
 }

@@ -95,12 +95,21 @@ pub fn parsed(alloc: Global, text: &str) -> Result<Value, RunFault> {
 
 fn decoded<R: JsonRecord>(alloc: Global, text: &str) -> Result<R, RunFault> {
     let value = parsed(alloc, text)?;
-    Ok(R::from_json(alloc, &value)?)
+    let record = R::from_json(alloc, &value);
+    drop(value);
+    Ok(record?)
 }
 
-fn encoding<R: ToJson>(alloc: Global, record: &R, form: BytesForm) -> Result<String, OutOfMemory> {
+/// Returns the record's text, with bytes in this form.
+pub fn encoding<R: ToJson>(
+    alloc: Global,
+    record: &R,
+    form: BytesForm,
+) -> Result<String, OutOfMemory> {
     let json = record.to_json(alloc, form)?;
-    Ok(json.to_string(alloc)?)
+    let text = json.to_string(alloc);
+    drop(json);
+    Ok(text?)
 }
 
 /// Returns the encoding, and tries again if memory ran out.
@@ -140,7 +149,8 @@ fn record_again<R: JsonRecord + ToJson + CopiedRecord>(
     Ok(encoding_again(alloc, tries, &record, BytesForm::Base64Url)?)
 }
 
-fn client_data_text<E: ClientDataExtra>(
+/// Returns the client data's text.
+pub fn client_data_text<E: ClientDataExtra>(
     alloc: Global,
     data: &CollectedClientData<E>,
 ) -> Result<String, JsonFault> {
@@ -153,7 +163,9 @@ fn copied_text<E: ClientDataExtra>(
     data: &CollectedClientData<E>,
 ) -> Result<String, RunFault> {
     let copy = data.try_clone(alloc)?;
-    Ok(client_data_text(alloc, &copy)?)
+    let text = client_data_text(alloc, &copy);
+    drop(copy);
+    Ok(text?)
 }
 
 /// `TEXT`: client data with the members that the caller's type knows, decoded, copied and encoded.
@@ -162,8 +174,12 @@ pub fn client_data_copied<E: ClientDataExtra>(
     text: &str,
 ) -> Result<String, RunFault> {
     let value = parsed(alloc, text)?;
-    let data: CollectedClientData<E> = CollectedClientData::from_json(alloc, &value)?;
-    copied_text(alloc, &data)
+    let data = CollectedClientData::<E>::from_json(alloc, &value);
+    drop(value);
+    let data = data?;
+    let text = copied_text(alloc, &data);
+    drop(data);
+    text
 }
 
 /// Returns the text, and tries again if memory ran out.
@@ -181,12 +197,26 @@ fn client_data_text_again(
     }
 }
 
-fn client_data_again(alloc: Global, tries: &mut Tries, text: &str) -> Result<String, RunFault> {
+fn client_data_of(alloc: Global, text: &str) -> Result<CollectedClientData, RunFault> {
     let value = parsed(alloc, text)?;
-    let mut data: CollectedClientData = CollectedClientData::from_json(alloc, &value)?;
+    let data = CollectedClientData::from_json(alloc, &value);
     drop(value);
-    tries.replace(alloc, &mut data)?;
-    let text = client_data_text_again(alloc, tries, &data);
+    Ok(data?)
+}
+
+/// Replaces the client data by a copy, and returns their text.
+fn copied_client_data(
+    alloc: Global,
+    tries: &mut Tries,
+    data: &mut CollectedClientData,
+) -> Result<String, JsonFault> {
+    tries.replace(alloc, data)?;
+    client_data_text_again(alloc, tries, data)
+}
+
+fn client_data_again(alloc: Global, tries: &mut Tries, text: &str) -> Result<String, RunFault> {
+    let mut data = client_data_of(alloc, text)?;
+    let text = copied_client_data(alloc, tries, &mut data);
     drop(data);
     Ok(text?)
 }

@@ -1,11 +1,10 @@
 //! Attestation statements, and the two structures in that of a TPM.
-use crate::hexadecimal::{decode, encode};
+use crate::hexadecimal::{decode, encode, item_of, item_text};
 use passkey_run::RunFault;
 use passkey_types::attestation::{
     AttestationStatement, CertInfo, CompoundElement, EncodeError, PubArea, StatementFault,
     TpmStatement,
 };
-use passkey_types::cbor::Value;
 use std::alloc::Global;
 
 fn none(alloc: Global) -> Result<String, RunFault> {
@@ -45,7 +44,22 @@ fn refused(alloc: Global, fault: StatementFault) -> Result<String, RunFault> {
 }
 
 fn written(alloc: Global, statement: &AttestationStatement) -> Result<String, RunFault> {
-    encode(alloc, &statement.to_value(alloc)?.to_vec(alloc)?)
+    item_text(alloc, statement.to_value(alloc)?)
+}
+
+/// Returns the statement, encoded, or why there is none.
+fn encoded(
+    alloc: Global,
+    statement: Result<AttestationStatement, StatementFault>,
+) -> Result<String, RunFault> {
+    match statement {
+        Ok(statement) => {
+            let text = written(alloc, &statement);
+            drop(statement);
+            text
+        }
+        Err(fault) => refused(alloc, fault),
+    }
 }
 
 /// Both structures, decoded and encoded.
@@ -59,12 +73,8 @@ fn structures(alloc: Global, statement: &TpmStatement) -> Result<String, RunFaul
 fn each(alloc: Global, elements: &[CompoundElement]) -> Result<String, RunFault> {
     let mut out = String::new(alloc);
     for element in elements {
-        let element = match element.statement(alloc) {
-            Ok(statement) => written(alloc, &statement)?,
-            Err(fault) => refused(alloc, fault)?,
-        };
-        out.push_str(&element)?;
-        out.push(' ')?;
+        let text = encoded(alloc, element.statement(alloc))?;
+        out.push_str(format!(in alloc; "{text} ")?.as_str())?;
     }
     Ok(out)
 }
@@ -81,6 +91,21 @@ fn parts(alloc: Global, statement: &AttestationStatement) -> Result<String, RunF
     }
 }
 
+/// Returns what is in the statement, or why there is none.
+fn in_parts(
+    alloc: Global,
+    statement: Result<AttestationStatement, StatementFault>,
+) -> Result<String, RunFault> {
+    match statement {
+        Ok(statement) => {
+            let text = parts(alloc, &statement);
+            drop(statement);
+            text
+        }
+        Err(fault) => refused(alloc, fault),
+    }
+}
+
 /// `att-FORMAT BYTES`: a statement of this format; `parts-FORMAT BYTES`: what is in it.
 fn statement(
     alloc: Global,
@@ -88,17 +113,13 @@ fn statement(
     has_parts: bool,
     input: &str,
 ) -> Result<String, RunFault> {
-    let bytes = decode(alloc, input)?;
-    let (value, _len) = Value::from_slice(alloc, &bytes)?;
-    match AttestationStatement::from_value(alloc, format, &value) {
-        Ok(statement) => {
-            if has_parts {
-                parts(alloc, &statement)
-            } else {
-                written(alloc, &statement)
-            }
-        }
-        Err(fault) => refused(alloc, fault),
+    let item = item_of(alloc, input)?;
+    let statement = AttestationStatement::from_value(alloc, format, &item);
+    drop(item);
+    if has_parts {
+        in_parts(alloc, statement)
+    } else {
+        encoded(alloc, statement)
     }
 }
 

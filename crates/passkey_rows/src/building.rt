@@ -59,18 +59,13 @@ fn secrets(alloc: Global) -> Result<StoredHmacSecret, OutOfMemory> {
     })
 }
 
-/// Returns the same passkey with a name and secrets.
-fn named(alloc: Global, mut passkey: Passkey) -> Result<Passkey, OutOfMemory> {
-    passkey.username = Some(Text::from_str(alloc, "user")?);
-    passkey.extensions.hmac_secret = Some(secrets(alloc)?);
-    Ok(passkey)
-}
-
 fn built(alloc: Global, tries: &mut Tries, rp_id: &str) -> Result<Passkey, OutOfMemory> {
-    let builder = builder(alloc, rp_id)?;
+    let secrets = secrets(alloc)?;
+    let name = Text::from_str(alloc, "user")?;
+    let builder = builder(alloc, rp_id)?.username(name).hmac_secret(secrets);
     let builder = with_id(alloc, tries, builder)?;
     let builder = with_handle(alloc, tries, builder)?;
-    named(alloc, builder.build())
+    Ok(builder.build())
 }
 
 fn printed(
@@ -79,21 +74,30 @@ fn printed(
     id: &Bytes,
     handle: &Option<Bytes>,
 ) -> Result<String, RunFault> {
-    let mut text = String::from_str(alloc, rp_id.as_str())?;
-    text.push_str(" ")?;
-    text.push_str(encode(alloc, id.as_slice())?.as_str())?;
-    if let Some(handle) = handle {
-        text.push_str(" ")?;
-        text.push_str(encode(alloc, handle.as_slice())?.as_str())?;
+    let id = encode(alloc, id.as_slice())?;
+    match handle {
+        Some(handle) => {
+            let handle = encode(alloc, handle.as_slice())?;
+            Ok(format!(in alloc; "{rp_id} {id} {handle}")?)
+        }
+        None => Ok(format!(in alloc; "{rp_id} {id}")?),
     }
-    Ok(text)
+}
+
+/// Replaces the passkey by a copy, and returns its text.
+fn described(alloc: Global, tries: &mut Tries, passkey: &mut Passkey) -> Result<String, RunFault> {
+    tries.replace_equal(alloc, passkey)?;
+    let descriptor = passkey.descriptor(alloc)?;
+    let text = printed(alloc, &passkey.rp_id, &descriptor.id, &passkey.user_handle);
+    drop(descriptor);
+    text
 }
 
 /// `RPID`: the relying party id, the credential id and the user handle of a copy of a passkey whose
 /// credential id was drawn with 16 bytes, then with 4, and whose user handle was drawn with 8.
 pub fn build(alloc: Global, tries: &mut Tries, input: &str) -> Result<String, RunFault> {
     let mut passkey = built(alloc, tries, input)?;
-    tries.replace_equal(alloc, &mut passkey)?;
-    let descriptor = passkey.descriptor(alloc)?;
-    printed(alloc, &passkey.rp_id, &descriptor.id, &passkey.user_handle)
+    let text = described(alloc, tries, &mut passkey);
+    drop(passkey);
+    text
 }

@@ -26,12 +26,26 @@ fn replace_by_item<T: FromCbor + ToCbor>(
     part: &mut T,
 ) -> Result<(), OutOfMemory> {
     let item = item_of(alloc, tries, part)?;
-    match T::from_value(alloc, &item) {
+    let other = T::from_value(alloc, &item);
+    drop(item);
+    match other {
         Ok(other) => *part = other,
         Err(Refusal::OutOfMemory) => return Err(OutOfMemory),
         Err(Refusal::Refused) => tries.compare(false),
     }
     Ok(())
+}
+
+/// Encodes the value's data item.
+fn encoded_by_item<T: ToCbor>(
+    alloc: Global,
+    tries: &mut Tries,
+    value: &T,
+) -> Result<Vec<u8>, OutOfMemory> {
+    let item = item_of(alloc, tries, value)?;
+    let encoding = encoded_item(alloc, tries, &item);
+    drop(item);
+    encoding
 }
 
 /// Decodes a message from its data item, and encodes the message's data item.
@@ -41,26 +55,28 @@ pub fn by_item<M: Message + ToCbor>(
     bytes: &[u8],
 ) -> Result<Vec<u8>, RunFault> {
     let (message, _len) = from_item::<M>(alloc, tries, bytes)?;
-    let item = item_of(alloc, tries, &message)?;
-    Ok(encoded_item(alloc, tries, &item)?)
+    Ok(encoded_by_item(alloc, tries, &message)?)
 }
 
-fn replace_parts(
+/// Replaces parts of the response by way of their data items, and encodes the result.
+fn encoded_by_parts(
     alloc: Global,
     tries: &mut Tries,
     info: &mut get_info::Response,
-) -> Result<(), OutOfMemory> {
+) -> Result<Vec<u8>, OutOfMemory> {
     replace_by_item(alloc, tries, &mut info.versions)?;
     replace_by_item(alloc, tries, &mut info.extensions)?;
     replace_by_item(alloc, tries, &mut info.aaguid)?;
     replace_by_item(alloc, tries, &mut info.options)?;
     replace_by_item(alloc, tries, &mut info.pin_protocols)?;
-    replace_by_item(alloc, tries, &mut info.algorithms)
+    replace_by_item(alloc, tries, &mut info.algorithms)?;
+    encoded(alloc, tries, info)
 }
 
 /// The response has no data item of its own, but its parts have.
 pub fn info_by_items(alloc: Global, tries: &mut Tries, bytes: &[u8]) -> Result<Vec<u8>, RunFault> {
     let (mut info, _len) = from_item::<get_info::Response>(alloc, tries, bytes)?;
-    replace_parts(alloc, tries, &mut info)?;
-    Ok(encoded(alloc, tries, &info)?)
+    let encoding = encoded_by_parts(alloc, tries, &mut info);
+    drop(info);
+    Ok(encoding?)
 }

@@ -2,13 +2,13 @@
 //! in them. What they reject is an output.
 use crate::again_json::is_out_of_memory;
 use crate::hexadecimal::{decode, encode};
+use crate::making::key_of;
 use crate::setting::first_word;
 use passkey_relying_party::{
     CredentialRecord, Rejected, creation_options, register, request_options, sign_in,
 };
 use passkey_run::RunFault;
-use passkey_types::cbor::Value;
-use passkey_types::cose::{CoseError, CoseKey};
+use passkey_types::cose::CoseError;
 use passkey_types::ctap2::{Aaguid, AttestedCredentialData, Fault};
 use passkey_types::encoding::try_from_base64url;
 use passkey_types::webauthn::{ClientDataFault, JsonFault, PublicKeyCredentialUserEntity};
@@ -16,8 +16,18 @@ use passkey_types::{Bytes, Text};
 use std::alloc::Global;
 
 /// Returns the rejection as text, unless memory ran out.
-fn rejection(alloc: Global, rejected: &Rejected) -> Result<String, RunFault> {
-    let no_memory = match rejected {
+fn rejection(alloc: Global, rejected: Rejected) -> Result<String, RunFault> {
+    if has_no_memory(&rejected) {
+        drop(rejected);
+        return Err(RunFault::OutOfMemory);
+    }
+    let text = format!(in alloc; "{rejected}");
+    drop(rejected);
+    Ok(text?)
+}
+
+fn has_no_memory(rejected: &Rejected) -> bool {
+    match rejected {
         Rejected::BadJson(error) => is_out_of_memory(error),
         Rejected::Answer(fault) => *fault == JsonFault::OutOfMemory,
         Rejected::ClientData(fault) => *fault == ClientDataFault::OutOfMemory,
@@ -25,11 +35,7 @@ fn rejection(alloc: Global, rejected: &Rejected) -> Result<String, RunFault> {
         Rejected::AuthenticatorData(error) => *error == CoseError::OutOfMemory,
         Rejected::Check(_) => false,
         Rejected::Memory(_) => true,
-    };
-    if no_memory {
-        return Err(RunFault::OutOfMemory);
     }
-    Ok(format!(in alloc; "{rejected}")?)
 }
 
 fn challenge_of(alloc: Global, text: &str) -> Result<Bytes, RunFault> {
@@ -44,41 +50,24 @@ fn options(alloc: Global, input: &str) -> Result<String, RunFault> {
     let (challenge, words) = first_word(input);
     let (id, words) = first_word(words);
     let (name, display_name) = first_word(words);
+    let challenge = challenge_of(alloc, challenge)?;
     let user = PublicKeyCredentialUserEntity {
         id: challenge_of(alloc, id)?,
         display_name: Text::from_str(alloc, display_name)?,
         name: Text::from_str(alloc, name)?,
     };
-    Ok(creation_options(alloc, challenge_of(alloc, challenge)?, user)?)
+    Ok(creation_options(alloc, challenge, user)?)
 }
 
-/// The passkey that is registered by `CHALLENGE ANSWER`.
-fn registered(
-    alloc: Global,
-    challenge: &str,
-    answer: &str,
-) -> Result<Result<CredentialRecord, Rejected>, RunFault> {
-    let challenge = challenge_of(alloc, challenge)?;
-    Ok(register(alloc, challenge.as_slice(), answer))
-}
-
-/// `CHALLENGE ANSWER`: the id of the passkey that is registered.
-fn registration(alloc: Global, input: &str) -> Result<String, RunFault> {
-    let (challenge, answer) = first_word(input);
-    match registered(alloc, challenge, answer)? {
-        Ok(record) => Ok(record.credential_id.to_base64url(alloc)?),
-        Err(rejected) => rejection(alloc, &rejected),
-    }
-}
-
-/// `CHALLENGE CHALLENGE ANSWER`: the options of a sign-in, with the passkey that the others register.
-fn sign_in_options(alloc: Global, input: &str) -> Result<String, RunFault> {
-    let (challenge, words) = first_word(input);
-    let (first, answer) = first_word(words);
-    match registered(alloc, first, answer)? {
-        Ok(record) => Ok(request_options(alloc, challenge_of(alloc, challenge)?, &record)?),
-        Err(rejected) => rejection(alloc, &rejected),
-    }
+/// What is done with a passkey once it is registered.
+#[derive(Clone, Copy)]
+enum Then<'a> {
+    /// Its id is printed.
+    Id,
+    /// The options of a sign-in with this challenge, in base64url, are printed.
+    Options(&'a str),
+    /// It is used, with this signature counter: the challenge, in base64url, and the answer.
+    SignIn(u32, &'a str, &'a str),
 }
 
 /// Returns what is signed.
@@ -90,9 +79,57 @@ fn signed(
 ) -> Result<String, RunFault> {
     let challenge = challenge_of(alloc, challenge)?;
     match sign_in(alloc, challenge.as_slice(), record, answer) {
-        Ok(assertion) => encode(alloc, &assertion.signed),
-        Err(rejected) => rejection(alloc, &rejected),
+        Ok(assertion) => {
+            let signed = assertion.signed;
+            encode(alloc, &signed)
+        }
+        Err(rejected) => rejection(alloc, rejected),
     }
+}
+
+fn used(alloc: Global, record: &mut CredentialRecord, then: Then<'_>) -> Result<String, RunFault> {
+    match then {
+        Then::Id => Ok(record.credential_id.to_base64url(alloc)?),
+        Then::Options(challenge) => {
+            let challenge = challenge_of(alloc, challenge)?;
+            Ok(request_options(alloc, challenge, record)?)
+        }
+        Then::SignIn(counter, challenge, answer) => {
+            record.counter = counter;
+            signed(alloc, record, challenge, answer)
+        }
+    }
+}
+
+/// Registers a passkey by a challenge in base64url and an answer, and returns what is printed of it.
+fn registered(
+    alloc: Global,
+    challenge: &str,
+    answer: &str,
+    then: Then<'_>,
+) -> Result<String, RunFault> {
+    let challenge = challenge_of(alloc, challenge)?;
+    match register(alloc, challenge.as_slice(), answer) {
+        Ok(mut record) => {
+            let text = used(alloc, &mut record, then);
+            drop(record);
+            text
+        }
+        Err(rejected) => rejection(alloc, rejected),
+    }
+}
+
+/// `CHALLENGE ANSWER`: the id of the passkey that is registered.
+fn registration(alloc: Global, input: &str) -> Result<String, RunFault> {
+    let (challenge, answer) = first_word(input);
+    registered(alloc, challenge, answer, Then::Id)
+}
+
+/// `CHALLENGE CHALLENGE ANSWER`: the options of a sign-in, with the passkey that the others register.
+fn sign_in_options(alloc: Global, input: &str) -> Result<String, RunFault> {
+    let (challenge, words) = first_word(input);
+    let (first, answer) = first_word(words);
+    registered(alloc, first, answer, Then::Options(challenge))
 }
 
 /// `COUNTER CHALLENGE ANSWER CHALLENGE ANSWER`: what is signed as the passkey is used that the first
@@ -102,24 +139,22 @@ fn signing_in(alloc: Global, input: &str) -> Result<String, RunFault> {
     let (first, words) = first_word(words);
     let (answer, words) = first_word(words);
     let (challenge, other) = first_word(words);
-    match registered(alloc, first, answer)? {
-        Ok(record) => {
-            let mut record = record;
-            record.counter = counter.parse::<u32>().unwrap_or(0);
-            signed(alloc, &record, challenge, other)
-        }
-        Err(rejected) => rejection(alloc, &rejected),
-    }
+    let counter = counter.parse::<u32>().unwrap_or(0);
+    registered(
+        alloc,
+        first,
+        answer,
+        Then::SignIn(counter, challenge, other),
+    )
 }
 
 /// `KEY ID REQUEST`: the authenticator's answer, with a credential of this key and this id.
 fn authenticator(alloc: Global, input: &str) -> Result<String, RunFault> {
     let (key, words) = first_word(input);
     let (id, request) = first_word(words);
-    let (key, _len) = Value::from_slice(alloc, &decode(alloc, key)?)?;
-    let key = CoseKey::from_value(alloc, &key)?;
     let id = decode(alloc, id)?;
     let request = decode(alloc, request)?;
+    let key = key_of(alloc, key)?;
     let Ok(credential) = AttestedCredentialData::new(Aaguid::new_empty(), id, key) else {
         return Err(RunFault::BadHex);
     };

@@ -39,6 +39,17 @@ struct Decoding<'a, 'b> {
     bytes: &'b [u8],
 }
 
+/// Decodes the message from the data item, and tries again if memory ran out.
+fn from_value<M: Message>(alloc: Global, tries: &mut Tries, item: &Value) -> Result<M, Fault> {
+    match M::from_value(alloc, item) {
+        Err(Fault::OutOfMemory) => {
+            tries.refuse();
+            M::from_value(alloc, item)
+        }
+        other => other,
+    }
+}
+
 /// Decodes the message from the leading data item, and tries again if memory ran out.
 pub fn from_item<M: Message>(
     alloc: Global,
@@ -50,14 +61,9 @@ pub fn from_item<M: Message>(
         Err(CborError::OutOfMemory) => return Err(RunFault::OutOfMemory),
         Err(_) => return Err(RunFault::MessageRefused(Fault::DecodeFailed)),
     };
-    let message = match M::from_value(alloc, &item) {
-        Err(Fault::OutOfMemory) => {
-            tries.refuse();
-            M::from_value(alloc, &item)?
-        }
-        other => other?,
-    };
-    Ok((message, len))
+    let message = from_value(alloc, tries, &item);
+    drop(item);
+    Ok((message?, len))
 }
 
 impl<'a, 'b> Decoding<'a, 'b> {

@@ -1,6 +1,7 @@
 //! Extensions in messages: those that a record knows, with the others, which are kept.
 use crate::again_bytes::encoded;
-use crate::hexadecimal::{decode, encode};
+use crate::hexadecimal::{decode, encode, item_of, item_text};
+use crate::setting::first_word;
 use crate::tries::Tries;
 use passkey_run::RunFault;
 use passkey_types::cbor::Value;
@@ -24,29 +25,52 @@ fn lent<R: Message, E: Message>(
 ) -> Result<String, RunFault> {
     let bytes = decode(alloc, input)?;
     match extensions_of::<R, E>(alloc, &bytes, number)? {
-        Some(extensions) => encode(alloc, &encoded(alloc, tries, &extensions)?),
+        Some(extensions) => {
+            let bytes = encoded(alloc, tries, &extensions);
+            drop(extensions);
+            encode(alloc, &bytes?)
+        }
         None => none(alloc),
     }
 }
 
+/// Decodes a map of extensions, and returns its item with those that the record doesn't know.
+fn rewritten<E: Message + TableRecord>(alloc: Global, map: &Value) -> Result<Value, RunFault> {
+    let record = <E as Message>::from_value(alloc, map)?;
+    let others = others_of::<E>(alloc, map)?;
+    let item = with_others(alloc, &record, &others);
+    drop(others);
+    Ok(item?)
+}
+
 /// `BYTES`: a map of extensions, decoded and encoded with those that the record doesn't know.
 fn whole<E: Message + TableRecord>(alloc: Global, input: &str) -> Result<String, RunFault> {
-    let bytes = decode(alloc, input)?;
-    let (map, _len) = Value::from_slice(alloc, &bytes)?;
-    let record = <E as Message>::from_value(alloc, &map)?;
-    let others = others_of::<E>(alloc, &map)?;
-    encode(alloc, &with_others(alloc, &record, &others)?.to_vec(alloc)?)
+    let map = item_of(alloc, input)?;
+    let item = rewritten::<E>(alloc, &map);
+    drop(map);
+    item_text(alloc, item?)
+}
+
+/// Returns the message with the second item as the value of the row.
+fn with_value<R: Message>(
+    alloc: Global,
+    message: &Value,
+    number: u8,
+    value: &str,
+) -> Result<Value, RunFault> {
+    let value = item_of(alloc, value)?;
+    let item = with_row::<R>(alloc, message, number, &value);
+    drop(value);
+    Ok(item?)
 }
 
 /// `BYTES BYTES`: a message with the second item as the value of the row.
 fn put_back<R: Message>(alloc: Global, number: u8, input: &str) -> Result<String, RunFault> {
-    let (message, value) = input.split_once(' ').unwrap_or((input, ""));
-    let (message, _len) = Value::from_slice(alloc, &decode(alloc, message)?)?;
-    let (value, _len) = Value::from_slice(alloc, &decode(alloc, value)?)?;
-    encode(
-        alloc,
-        &with_row::<R>(alloc, &message, number, &value)?.to_vec(alloc)?,
-    )
+    let (message, value) = first_word(input);
+    let message = item_of(alloc, message)?;
+    let item = with_value::<R>(alloc, &message, number, value);
+    drop(message);
+    item_text(alloc, item?)
 }
 
 /// Returns the output of a row of such a kind. Returns `None` if it isn't a row of such a kind.

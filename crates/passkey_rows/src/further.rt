@@ -1,6 +1,7 @@
 //! Rows of kinds that `passkey_show` doesn't have: messages of any kind, and the bytes that are sent
 //! around them.
 use crate::attestation::attestation_row;
+use crate::authenticated::authenticated_row;
 use crate::ceremonies::ceremony_row;
 use crate::extensions::extensions_row;
 use crate::heads::Counts;
@@ -17,9 +18,6 @@ use passkey_run::RunFault;
 use passkey_types::cbor::Value;
 use passkey_types::ctap2::framing::{request_of, response_of};
 use passkey_types::ctap2::large_blobs::{array_of, with_digest};
-use passkey_types::ctap2::{
-    Message, bio_enrollment, client_pin, config, credential_management, large_blobs,
-};
 use std::alloc::Global;
 
 /// `BYTES`: the command of a request, and its body.
@@ -50,50 +48,9 @@ fn blob_array(alloc: Global, input: &str) -> Result<String, RunFault> {
         return Ok(String::from_str(alloc, "none")?);
     };
     let (array, _len) = Value::from_slice(alloc, array)?;
-    let array = array.to_vec(alloc)?;
-    encode(alloc, &with_digest(alloc, &array)?)
-}
-
-fn pin_authenticated(alloc: Global, bytes: &[u8]) -> Result<Option<Vec<u8>>, RunFault> {
-    let (request, _len) = client_pin::Request::from_slice(alloc, bytes)?;
-    Ok(Some(request.authenticated_bytes(alloc)?))
-}
-
-fn enrollment_authenticated(alloc: Global, bytes: &[u8]) -> Result<Option<Vec<u8>>, RunFault> {
-    let (request, _len) = bio_enrollment::Request::from_slice(alloc, bytes)?;
-    Ok(request.authenticated_bytes(alloc, bytes)?)
-}
-
-fn management_authenticated(alloc: Global, bytes: &[u8]) -> Result<Option<Vec<u8>>, RunFault> {
-    let (request, _len) = credential_management::Request::from_slice(alloc, bytes)?;
-    Ok(Some(request.authenticated_bytes(alloc, bytes)?))
-}
-
-fn blobs_authenticated(alloc: Global, bytes: &[u8]) -> Result<Option<Vec<u8>>, RunFault> {
-    let (request, _len) = large_blobs::Request::from_slice(alloc, bytes)?;
-    Ok(request.authenticated_bytes(alloc)?)
-}
-
-fn configuration_authenticated(alloc: Global, bytes: &[u8]) -> Result<Option<Vec<u8>>, RunFault> {
-    let (request, _len) = config::Request::from_slice(alloc, bytes)?;
-    Ok(Some(request.authenticated_bytes(alloc, bytes)?))
-}
-
-/// `BYTES`: what pinUvAuthParam authenticates for a request; `none` if it is nothing.
-fn authenticated(alloc: Global, command: &str, input: &str) -> Result<String, RunFault> {
-    let bytes = decode(alloc, input)?;
-    let authenticated = match command {
-        "pin" => pin_authenticated(alloc, &bytes)?,
-        "bio" => enrollment_authenticated(alloc, &bytes)?,
-        "cm" => management_authenticated(alloc, &bytes)?,
-        "lb" => blobs_authenticated(alloc, &bytes)?,
-        "cfg" => configuration_authenticated(alloc, &bytes)?,
-        _ => return Err(RunFault::UnknownKind),
-    };
-    match authenticated {
-        Some(authenticated) => encode(alloc, &authenticated),
-        None => Ok(String::from_str(alloc, "none")?),
-    }
+    let encoding = array.to_vec(alloc);
+    drop(array);
+    encode(alloc, &with_digest(alloc, &encoding?)?)
 }
 
 fn way_of(name: &str) -> (Way, &str) {
@@ -133,7 +90,7 @@ pub fn further_row(
         _ => {}
     }
     if let Some(command) = name.strip_prefix("authenticated-") {
-        return Some(authenticated(alloc, command, input));
+        return Some(authenticated_row(alloc, command, input));
     }
     if let Some(output) = attestation_row(alloc, name, input) {
         return Some(output);

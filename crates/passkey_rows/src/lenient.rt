@@ -4,7 +4,7 @@ use crate::hexadecimal::{decode, encode};
 use crate::tries::Tries;
 use passkey_run::RunFault;
 use passkey_types::OutOfMemory;
-use passkey_types::ctap2::repair::{Repairable, from_slice_lenient};
+use passkey_types::ctap2::repair::{Lenient, Repairable, from_slice_lenient};
 use passkey_types::ctap2::{Message, credential_management, get_assertion, make_credential};
 use std::alloc::Global;
 use std::fmt::Display;
@@ -18,6 +18,18 @@ pub fn listed<R: Display>(alloc: Global, repairs: &[R]) -> Result<String, OutOfM
     Ok(out)
 }
 
+/// Returns the repairs that were made, and the message's encoding.
+fn written<M: Message>(
+    alloc: Global,
+    tries: &mut Tries,
+    read: &Lenient<M>,
+) -> Result<String, RunFault> {
+    let repairs = listed(alloc, &read.repairs)?;
+    let bytes = encoded(alloc, tries, &read.message)?;
+    let bytes = encode(alloc, &bytes)?;
+    Ok(format!(in alloc; "{repairs}{bytes}")?)
+}
+
 /// `BYTES`: the repairs that were made, and the message's encoding.
 fn lenient<M: Message + Repairable>(
     alloc: Global,
@@ -26,9 +38,9 @@ fn lenient<M: Message + Repairable>(
 ) -> Result<String, RunFault> {
     let bytes = decode(alloc, input)?;
     let (read, _) = from_slice_lenient::<M>(alloc, &bytes)?;
-    let mut output = listed(alloc, &read.repairs)?;
-    output.push_str(&encode(alloc, &encoded(alloc, tries, &read.message)?)?)?;
-    Ok(output)
+    let text = written(alloc, tries, &read);
+    drop(read);
+    text
 }
 
 /// Returns the output of a row of such a kind. Returns `None` if it isn't a row of such a kind.

@@ -1,5 +1,5 @@
 //! Records over JSON with their known deviations repaired.
-use crate::again_json::parsed;
+use crate::again_json::{client_data_text, encoding, parsed};
 use crate::lenient::listed;
 use passkey_run::RunFault;
 use passkey_types::OutOfMemory;
@@ -18,19 +18,20 @@ fn written<R: ToJson>(
     record: &R,
     repairs: &[Repair],
 ) -> Result<String, OutOfMemory> {
-    let mut out = listed(alloc, repairs)?;
-    let json = record
-        .to_json(alloc, BytesForm::Base64Url)?
-        .to_string(alloc)?;
-    out.push_str(json.as_str())?;
-    Ok(out)
+    let repairs = listed(alloc, repairs)?;
+    let json = encoding(alloc, record, BytesForm::Base64Url)?;
+    Ok(format!(in alloc; "{repairs}{json}")?)
 }
 
 /// `TEXT`: the repairs, and the record, decoded and encoded.
 fn lenient<R: RepairsJson + ToJson>(alloc: Global, text: &str) -> Result<String, RunFault> {
     let value = parsed(alloc, text)?;
-    let (record, repairs) = from_json_lenient::<R>(alloc, &value)?;
-    Ok(written(alloc, &record, &repairs)?)
+    let read = from_json_lenient::<R>(alloc, &value);
+    drop(value);
+    let (record, repairs) = read?;
+    let text = written(alloc, &record, &repairs);
+    drop(record);
+    Ok(text?)
 }
 
 /// `TEXT`: client data behind a byte order mark or none, decoded and encoded.
@@ -42,8 +43,9 @@ fn client_data(alloc: Global, text: &str) -> Result<String, RunFault> {
         Err(ClientDataFault::Refused(fault)) => return Err(RunFault::from(fault)),
         Err(ClientDataFault::OutOfMemory) => return Err(RunFault::OutOfMemory),
     };
-    let text = data.to_text(alloc)?;
-    Ok(String::from_str(alloc, text.as_str())?)
+    let text = client_data_text(alloc, &data);
+    drop(data);
+    Ok(text?)
 }
 
 /// Returns the output of a row of such a kind. Returns `None` if it isn't a row of such a kind.

@@ -1,22 +1,26 @@
 //! What WebAuthn Level 3 has over JSON beyond the records of `passkey_show`.
-use crate::again_json::{client_data_copied, parsed};
+use crate::again_json::{client_data_copied, encoding, parsed};
 use passkey_catalogue::{FurtherJsonKind, rewrite_further_json};
 use passkey_run::RunFault;
 use passkey_types::json::{FromJson, JsonRefusal};
 use passkey_types::webauthn::further::{ClientCapabilities, PaymentData, TopOrigin};
-use passkey_types::webauthn::{BytesForm, EnumNames, ToJson};
+use passkey_types::webauthn::{BytesForm, EnumNames};
 use std::alloc::Global;
 
 /// `TEXT`: client capabilities, decoded and encoded; `none` if it is no object of booleans.
 fn capabilities(alloc: Global, text: &str) -> Result<String, RunFault> {
     let value = parsed(alloc, text)?;
-    let map: ClientCapabilities = match ClientCapabilities::from_value(alloc, &value) {
-        Ok(map) => map,
-        Err(JsonRefusal::Refused) => return Ok(String::from_str(alloc, "none")?),
-        Err(JsonRefusal::OutOfMemory) => return Err(RunFault::OutOfMemory),
-    };
-    let json = map.to_json(alloc, BytesForm::Base64Url)?;
-    Ok(json.to_string(alloc)?)
+    let map = ClientCapabilities::from_value(alloc, &value);
+    drop(value);
+    match map {
+        Ok(map) => {
+            let text = encoding(alloc, &map, BytesForm::Base64Url);
+            drop(map);
+            Ok(text?)
+        }
+        Err(JsonRefusal::Refused) => Ok(String::from_str(alloc, "none")?),
+        Err(JsonRefusal::OutOfMemory) => Err(RunFault::OutOfMemory),
+    }
 }
 
 /// Returns the output of a row of such a kind: client data are decoded, copied and encoded, other

@@ -11,6 +11,7 @@ mod again_bytes;
 mod again_json;
 mod alike;
 mod attestation;
+mod authenticated;
 mod building;
 mod by_item;
 mod ceremonies;

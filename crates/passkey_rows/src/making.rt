@@ -1,6 +1,7 @@
 //! Keys, maps, passkeys, texts in base64 and documents, made with calls that are made again if
 //! memory runs out.
-use crate::hexadecimal::{decode, encode};
+use crate::hexadecimal::{decode, encode, item_of};
+use crate::setting::first_word;
 use crate::tries::Tries;
 use passkey_run::RunFault;
 use passkey_types::cbor::Value;
@@ -9,78 +10,83 @@ use passkey_types::encoding::{base64, base64url};
 use passkey_types::{Bytes, BytesFault, Map, OutOfMemory, Text};
 use std::alloc::Global;
 
-fn item_of(alloc: Global, text: &str) -> Result<Value, RunFault> {
-    let bytes = decode(alloc, text)?;
-    let (item, _len) = Value::from_slice(alloc, &bytes)?;
-    Ok(item)
-}
-
-fn key_of(alloc: Global, text: &str) -> Result<CoseKey, RunFault> {
+/// Returns the key of this data item in hexadecimal.
+pub fn key_of(alloc: Global, text: &str) -> Result<CoseKey, RunFault> {
     let item = item_of(alloc, text)?;
-    Ok(CoseKey::from_value(alloc, &item)?)
+    let key = CoseKey::from_value(alloc, &item);
+    drop(item);
+    Ok(key?)
 }
 
-/// Adds the parameter; an error gives the key back.
-fn with_text_param(
-    alloc: Global,
-    tries: &mut Tries,
-    key: CoseKey,
-    label: &str,
-    value: &str,
-) -> Result<CoseKey, RunFault> {
-    let refused = match with_param(alloc, key, label, item_of(alloc, value)?) {
-        Ok(key) => return Ok(key),
-        Err(refused) => refused,
-    };
-    if refused.error != CoseError::OutOfMemory {
-        return Err(RunFault::from(refused.error));
-    }
-    tries.refuse();
-    match with_param(alloc, refused.key, label, item_of(alloc, value)?) {
-        Ok(key) => Ok(key),
-        Err(refused) => Err(RunFault::from(refused.error)),
-    }
+/// Returns a parameter's label, which is a text, and its value, a data item.
+fn parameter(alloc: Global, label: &str, value: &[u8]) -> Result<(Label, Value), CoseError> {
+    let label = Label::Text(String::from_str(alloc, label)?);
+    let (value, _len) = Value::from_slice(alloc, value)?;
+    Ok((label, value))
 }
 
-/// The error is that of the parameter, and gives the key back; or why there is no parameter.
+/// Adds the parameter. The error gives the key back.
 fn with_param(
     alloc: Global,
     key: CoseKey,
     label: &str,
-    value: Value,
+    value: &[u8],
 ) -> Result<CoseKey, RefusedKey> {
-    match String::from_str(alloc, label) {
-        Ok(name) => key.with_param(alloc, Label::Text(name), value),
-        Err(_) => Err(RefusedKey {
-            key,
-            error: CoseError::OutOfMemory,
-        }),
+    match parameter(alloc, label, value) {
+        Ok((label, value)) => key.with_param(alloc, label, value),
+        Err(error) => Err(RefusedKey { key, error }),
+    }
+}
+
+/// Does the same, and tries again with the key that came back if memory ran out.
+fn with_param_again(
+    alloc: Global,
+    tries: &mut Tries,
+    key: CoseKey,
+    label: &str,
+    value: &[u8],
+) -> Result<CoseKey, RefusedKey> {
+    match with_param(alloc, key, label, value) {
+        Ok(key) => Ok(key),
+        Err(refused) if refused.error == CoseError::OutOfMemory => {
+            tries.refuse();
+            with_param(alloc, refused.key, label, value)
+        }
+        Err(refused) => Err(refused),
+    }
+}
+
+fn encoded_key(alloc: Global, tries: &mut Tries, key: &CoseKey) -> Result<Vec<u8>, OutOfMemory> {
+    match key.to_vec(alloc) {
+        Ok(bytes) => Ok(bytes),
+        Err(OutOfMemory) => {
+            tries.refuse();
+            key.to_vec(alloc)
+        }
     }
 }
 
 /// Returns the encoding of a key, and tries again if memory ran out.
-fn encoded(alloc: Global, tries: &mut Tries, key: &CoseKey) -> Result<String, RunFault> {
-    let bytes = match key.to_vec(alloc) {
-        Ok(bytes) => bytes,
-        Err(OutOfMemory) => {
-            tries.refuse();
-            key.to_vec(alloc)?
-        }
-    };
-    encode(alloc, &bytes)
+fn encoded(alloc: Global, tries: &mut Tries, key: CoseKey) -> Result<String, RunFault> {
+    let bytes = encoded_key(alloc, tries, &key);
+    drop(key);
+    encode(alloc, &bytes?)
 }
 
 /// `KEY LABEL VALUE`: the key with a parameter under a text label.
 pub fn add_parameter(alloc: Global, tries: &mut Tries, input: &str) -> Result<String, RunFault> {
-    let (key, words) = input.split_once(' ').unwrap_or((input, ""));
-    let (label, value) = words.split_once(' ').unwrap_or((words, ""));
+    let (key, words) = first_word(input);
+    let (label, value) = first_word(words);
+    let value = decode(alloc, value)?;
     let key = key_of(alloc, key)?;
-    let key = with_text_param(alloc, tries, key, label, value)?;
-    encoded(alloc, tries, &key)
+    match with_param_again(alloc, tries, key, label, &value) {
+        Ok(key) => encoded(alloc, tries, key),
+        Err(refused) => Err(RunFault::from(CoseError::from(refused))),
+    }
 }
 
 fn point_of(alloc: Global, input: &str) -> Result<CoseKey, RunFault> {
-    let (x, y) = input.split_once(' ').unwrap_or((input, ""));
+    let (x, y) = first_word(input);
     let x = decode(alloc, x)?;
     let y = decode(alloc, y)?;
     Ok(CoseKey::new_ec2_pub_key(alloc, 1, x, y)?)
@@ -89,7 +95,7 @@ fn point_of(alloc: Global, input: &str) -> Result<CoseKey, RunFault> {
 /// `X Y`: the key with this point on the curve P-256.
 pub fn point(alloc: Global, tries: &mut Tries, input: &str) -> Result<String, RunFault> {
     let key = point_of(alloc, input)?;
-    encoded(alloc, tries, &key)
+    encoded(alloc, tries, key)
 }
 
 /// Inserts the entry; an error gives the key and the value back.
@@ -132,15 +138,23 @@ fn map_of(alloc: Global, tries: &mut Tries, input: &str) -> Result<Map<Bytes, Te
     Ok(map)
 }
 
+/// Returns an entry behind a space, but for the first one.
+fn entry_text(
+    alloc: Global,
+    is_first: bool,
+    key: &Bytes,
+    value: &Text,
+) -> Result<String, RunFault> {
+    let key = encode(alloc, key.as_slice())?;
+    let space = if is_first { "" } else { " " };
+    Ok(format!(in alloc; "{space}{key}={value}")?)
+}
+
 fn printed(alloc: Global, map: &Map<Bytes, Text>) -> Result<String, RunFault> {
     let mut text = String::new(alloc);
     for (key, value) in map {
-        if !text.is_empty() {
-            text.push_str(" ")?;
-        }
-        text.push_str(encode(alloc, key.as_slice())?.as_str())?;
-        text.push_str("=")?;
-        text.push_str(value.as_str())?;
+        let entry = entry_text(alloc, text.is_empty(), key, value)?;
+        text.push_str(entry.as_str())?;
     }
     Ok(text)
 }
@@ -175,11 +189,9 @@ fn compare_decoded(
 /// `BYTES`: the bytes in base64url and in base64; both texts are decoded again.
 pub fn in_base64(alloc: Global, tries: &mut Tries, input: &str) -> Result<String, RunFault> {
     let bytes = decode(alloc, input)?;
-    let mut text = base64url(alloc, &bytes)?;
+    let text = base64url(alloc, &bytes)?;
     compare_decoded(alloc, tries, &bytes, text.as_str())?;
     let other = base64(alloc, &bytes)?;
     compare_decoded(alloc, tries, &bytes, other.as_str())?;
-    text.push_str(" ")?;
-    text.push_str(other.as_str())?;
-    Ok(text)
+    Ok(format!(in alloc; "{text} {other}")?)
 }

@@ -1,7 +1,6 @@
 //! Diagnostic notation (RFC 8949, section 8), and where bytes aren't well-formed (section 3).
-use crate::hexadecimal::decode;
+use crate::hexadecimal::{decode, item_of};
 use passkey_run::RunFault;
-use passkey_types::cbor::Value;
 use passkey_types::ctap2::explain::{Malformed, malformed};
 use passkey_types::diagnose::{
     diagnose, diagnose_bytes, diagnose_bytes_indented, diagnose_indented,
@@ -12,9 +11,8 @@ use std::alloc::Global;
 fn in_one_line(alloc: Global, text: &str) -> Result<String, RunFault> {
     let mut out = String::new(alloc);
     for (number, line) in text.split('\n').enumerate() {
-        if number > 0 {
-            out.push_str("\\n")?;
-        }
+        let separator = if number > 0 { "\\n" } else { "" };
+        out.push_str(separator)?;
         out.push_str(line)?;
     }
     Ok(out)
@@ -22,13 +20,14 @@ fn in_one_line(alloc: Global, text: &str) -> Result<String, RunFault> {
 
 /// `BYTES`: the leading data item in diagnostic notation, in a line or in several.
 fn item(alloc: Global, is_indented: bool, input: &str) -> Result<String, RunFault> {
-    let bytes = decode(alloc, input)?;
-    let (value, _len) = Value::from_slice(alloc, &bytes)?;
-    if is_indented {
-        in_one_line(alloc, diagnose_indented(alloc, &value)?.as_str())
+    let value = item_of(alloc, input)?;
+    let text = if is_indented {
+        diagnose_indented(alloc, &value)
     } else {
-        Ok(diagnose(alloc, &value)?)
-    }
+        diagnose(alloc, &value)
+    };
+    drop(value);
+    in_one_line(alloc, text?.as_str())
 }
 
 /// `BYTES`: the same with how each item is encoded; `none` if no data item is there.

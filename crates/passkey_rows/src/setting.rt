@@ -70,27 +70,32 @@ pub fn set_creation_outputs(
     let secrets = decode(alloc, secrets)?;
     let data = data_of(alloc, data)?;
     let data = match with_creation_outputs(alloc, data, hmac_secret, &secrets) {
-        Ok(data) => data,
         Err(back) => {
             tries.refuse();
-            given(with_creation_outputs(alloc, back.value, hmac_secret, &secrets))?
+            with_creation_outputs(alloc, back.value, hmac_secret, &secrets)
         }
+        result => result,
     };
-    encoded(alloc, tries, &data)
+    encoded(alloc, tries, data)
 }
 
-fn given(
+/// Returns the encoding of the data; or out of memory, if they were given back.
+fn encoded(
+    alloc: Global,
+    tries: &mut Tries,
     data: Result<AuthenticatorData, GivenBack<AuthenticatorData>>,
-) -> Result<AuthenticatorData, OutOfMemory> {
+) -> Result<String, RunFault> {
     match data {
-        Ok(data) => Ok(data),
-        Err(_) => Err(OutOfMemory),
+        Ok(data) => {
+            let bytes = data_again(alloc, tries, &data);
+            drop(data);
+            encode(alloc, &bytes?)
+        }
+        Err(back) => {
+            drop(back);
+            Err(RunFault::OutOfMemory)
+        }
     }
-}
-
-fn encoded(alloc: Global, tries: &mut Tries, data: &AuthenticatorData) -> Result<String, RunFault> {
-    let bytes = data_again(alloc, tries, data)?;
-    encode(alloc, &bytes)
 }
 
 fn with_assertion_outputs(
@@ -117,13 +122,13 @@ pub fn set_assertion_outputs(
     let secrets = decode(alloc, secrets)?;
     let data = data_of(alloc, data)?;
     let data = match with_assertion_outputs(alloc, data, &secrets) {
-        Ok(data) => data,
         Err(back) => {
             tries.refuse();
-            given(with_assertion_outputs(alloc, back.value, &secrets))?
+            with_assertion_outputs(alloc, back.value, &secrets)
         }
+        result => result,
     };
-    encoded(alloc, tries, &data)
+    encoded(alloc, tries, data)
 }
 
 fn bytes_left(
@@ -149,8 +154,7 @@ pub fn iterate(alloc: Global, tries: &mut Tries, input: &str) -> Result<String, 
     match attested {
         Some(attested) => {
             let left = bytes_left(alloc, tries, attested)?;
-            let bytes = Bytes::from_items(alloc, left)?;
-            encode(alloc, bytes.as_slice())
+            encode(alloc, Bytes::from_items(alloc, left)?.as_slice())
         }
         None => Ok(String::new(alloc)),
     }
@@ -162,15 +166,25 @@ fn response_of(alloc: Global, text: &str) -> Result<make_credential::Response, R
     Ok(response)
 }
 
+/// Returns the attestation object, and tries again if memory ran out.
+fn object_bytes(
+    alloc: Global,
+    tries: &mut Tries,
+    response: &make_credential::Response,
+) -> Result<Vec<u8>, OutOfMemory> {
+    match response.as_webauthn_bytes(alloc) {
+        Ok(bytes) => Ok(bytes),
+        Err(OutOfMemory) => {
+            tries.refuse();
+            response.as_webauthn_bytes(alloc)
+        }
+    }
+}
+
 /// `RESPONSE`: the attestation object of an authenticatorMakeCredential response.
 pub fn object(alloc: Global, tries: &mut Tries, input: &str) -> Result<String, RunFault> {
     let response = response_of(alloc, input)?;
-    let bytes = match response.as_webauthn_bytes(alloc) {
-        Ok(bytes) => bytes,
-        Err(OutOfMemory) => {
-            tries.refuse();
-            response.as_webauthn_bytes(alloc)?
-        }
-    };
-    encode(alloc, &bytes)
+    let bytes = object_bytes(alloc, tries, &response);
+    drop(response);
+    encode(alloc, &bytes?)
 }
