@@ -8,7 +8,10 @@ use passkey_core::{Aaguid, AuthenticatorData};
 use passkey_entities::MissingRpId;
 use passkey_get_assertion::Request;
 use passkey_iana::Algorithm;
-use passkey_kinds::{Message, ReadBack, Refusal, TolerantList, Tolerated, WriteFault, laws};
+use passkey_kinds::{
+    Message, ReadBack, Refusal, TolerantList, Tolerated, WriteFault, is_marked, laws, mark,
+    no_marks,
+};
 use passkey_webauthn::{
     AuthenticatorTransport, PublicKeyCredentialDescriptor, PublicKeyCredentialType,
 };
@@ -19,6 +22,18 @@ use std::process::Abort;
 fn assert_printed<T: Display>(rt: &(impl Abort + AllocGlobal), value: &T, wanted: &str) {
     let printed = format!(in rt.alloc(); "{value}").expect(rt, "memory");
     assert_eq!(rt; printed.as_str(), wanted);
+}
+
+// A row's number is below 32.
+#[test]
+fn numbers_above_31_mark_nothing(rt: HostRuntime) {
+    let mut seen = no_marks();
+    for number in [7, 32, 255] {
+        mark(&mut seen, number);
+    }
+    for number in 0..=255u8 {
+        assert_eq!(rt; is_marked(&seen, number), number == 7, "{number}");
+    }
 }
 
 #[test]
