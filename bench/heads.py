@@ -1,6 +1,6 @@
 #!/usr/bin/env python3
-"""heads.py [--stdout] prints rows of crates/passkey_rows, `heads-KIND MESSAGE` for each message of hostile.py in a small size, and
-for messages of the further commands; with --stdout what they have to print: the heads and the nodes that decoding the message at a
+"""heads.py [--stdout] prints rows of crates/passkey_rows, `heads-KIND MESSAGE` for each message of hostile.py in a small size,
+for messages of the further commands, and for authenticator data that are whole, cut off or in chunks; with --stdout what they have to print: the heads and the nodes that decoding the message at a
 cursor counts, and whether it is accepted.
 
 The counts are worked out here, from the message alone, by what docs/CONTRACTS.md says of each call and docs/DECISIONS.md of the
@@ -192,6 +192,16 @@ def kept(item):
     return True, item.heads, item.items
 
 
+def part_at(content):
+    """The item that the bytes begin with, or None; the heads and nodes of skipping it and of decoding it; and the bytes behind it."""
+    parser = Parser(content)
+    try:
+        item = parser.item(MAX_LEVELS)
+    except NotWellFormed:
+        return None, parser.heads, 0, b""
+    return item, 2 * item.heads, item.items, content[parser.at :]
+
+
 def authenticator_data(item):
     if item.major != 2:
         return False, 1, 0
@@ -199,15 +209,15 @@ def authenticator_data(item):
     flags, rest = item.content[32], item.content[37:]
     if flags & 0x40:
         rest = rest[18 + int.from_bytes(rest[16:18], "big") :]
-        parser = Parser(rest)
-        key = parser.item(MAX_LEVELS)
-        heads, nodes = heads + 2 * key.heads, nodes + key.items
-        rest = rest[parser.at :]
-        if not any(it.major == 0 and it.argument == 1 for it in key.parts[::2]):
+        key, more, made, rest = part_at(rest)
+        heads, nodes = heads + more, nodes + made
+        if key is None or not any(it.major == 0 and it.argument == 1 for it in key.parts[::2]):
             return False, heads, nodes
     if flags & 0x80:
-        extensions = Parser(rest).item(MAX_LEVELS)
-        heads, nodes = heads + 2 * extensions.heads, nodes + extensions.items
+        extensions, more, made, rest = part_at(rest)
+        heads, nodes = heads + more, nodes + made
+        if extensions is None or extensions.major != 5:
+            return False, heads, nodes
     return True, heads, nodes
 
 
@@ -396,8 +406,24 @@ def further():
     ]
 
 
+def parts():
+    """Messages with authenticator data, a key and extensions that are whole, cut off or in chunks, and with texts in chunks."""
+    key = hostile.pairs([(b"\x01", b"\x02"), (b"\x03", b"\x26"), (b"\x20", b"\x01"), (b"\x21", hostile.chunked(2, b"abc")), (b"\x22", b"\xf5")])
+    extensions = hostile.pairs([(hostile.text("credProtect"), b"\x02"), (hostile.text("hmac-secret"), b"\xf5")])
+    chunked = hostile.pairs([(b"\x01", hostile.chunked(3, b"example.org")), (b"\x02", b"\x40")])
+    return [
+        ("mc-response", hostile.response(key)),
+        ("mc-response", hostile.response(key, extensions)),
+        ("mc-response", hostile.response(key[:-1])),
+        ("mc-response", hostile.response(key[:9])),
+        ("mc-response", hostile.response(key, extensions[:-1])),
+        ("mc-response", hostile.response(key, hostile.array([b"\x00"] * 5))),
+        ("ga-request", chunked),
+    ]
+
+
 def main():
-    for kind, message in [*[it[1:] for it in hostile.inputs(10)], *further()]:
+    for kind, message in [*[it[1:] for it in hostile.inputs(10)], *further(), *parts()]:
         if sys.argv[1:] == ["--stdout"]:
             print(f"0 {counted(kind, message)}")
         else:

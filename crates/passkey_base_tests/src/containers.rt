@@ -25,6 +25,9 @@ fn byte_strings_are_copied(rt: HostRuntime) {
     );
     let gathered = Bytes::from_items(rt.alloc(), made.iter().copied()).expect(&rt, "memory");
     assert!(rt; gathered == made);
+    let long = [7u8; 2_000];
+    let gathered = Bytes::from_items(rt.alloc(), long.iter().copied()).expect(&rt, "memory");
+    assert!(rt; gathered.eq_slice(&long));
     assert!(rt; made.eq_slice(&[0xfb, 0xff]));
     assert!(rt; made.try_clone(rt.alloc()).expect(&rt, "memory") == made);
     assert!(rt; made.clone().expect(&rt, "memory") == made);

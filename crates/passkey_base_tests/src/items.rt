@@ -1,6 +1,6 @@
 //! Data items as values, and the numbers that they can contain.
 use crate::checks::{assert_same, assert_same_bytes, assert_shown};
-use passkey_cbor::{CborError, Float, Integer, Simple, Value};
+use passkey_cbor::{CborError, Cursor, Float, Integer, Simple, Value};
 use std::process::Abort;
 use std::test::Fail;
 
@@ -82,11 +82,25 @@ fn described(rt: &(impl Abort + AllocGlobal), bytes: &[u8]) -> String {
     format!(in rt.alloc(); "{depth}: {copy:?}").expect(rt, "memory")
 }
 
+/// Asserts that a false length is a fault, and that no memory is asked for what isn't there, where the
+/// item isn't skipped first.
+fn assert_false_lengths(rt: &(impl Abort + AllocGlobal)) {
+    for head in [0x9b, 0xbb] {
+        let bytes = [head, 0x7f, 0xff, 0xff, 0xff, 0xff, 0xff, 0xff, 0xff, 0x00];
+        let value = Cursor::new(&bytes).value_ahead(rt.alloc());
+        assert!(rt;
+            matches!(value, Err(CborError::DecodeFailed)),
+            "after {head}"
+        );
+    }
+}
+
 #[test]
 fn items_are_decoded_copied_and_encoded(rt: HostRuntime) {
     for (bytes, wanted) in ITEMS {
         assert_same(&rt, described(&rt, bytes).as_str(), wanted);
     }
+    assert_false_lengths(&rt);
 }
 
 fn integer(value: i128) -> Option<i128> {

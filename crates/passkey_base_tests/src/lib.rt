@@ -1,5 +1,5 @@
-//! Tests of `passkey_cbor`, `passkey_bytes`, `passkey_cose`, `passkey_core` and `passkey_webauthn`: values
-//! from the standards, printed texts, and calls that need memory.
+//! Tests of `passkey_cbor`, `passkey_bytes`, `passkey_cose`, `passkey_core`, `passkey_webauthn` and
+//! `passkey_tpm`: values from the standards, printed texts, and calls that need memory.
 #![tactic(auto)]
 
 #[cfg(test)]
@@ -26,3 +26,5 @@ mod key_order;
 mod names;
 #[cfg(test)]
 mod printed;
+#[cfg(test)]
+mod tpm;

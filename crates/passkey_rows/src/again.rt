@@ -1,7 +1,7 @@
 //! Rows of kinds that `passkey_show` doesn't have, for calls that may run out of memory and that
 //! decoding and encoding a message doesn't make. A call that runs out of memory is made again, with
 //! the value that it borrowed or gave back.
-use crate::building::build;
+use crate::building::{build, erase};
 use crate::making::{add_parameter, in_base64, insert, point};
 use crate::setting::{iterate, object, set_assertion_outputs, set_creation_outputs};
 use crate::tries::Tries;
@@ -26,6 +26,7 @@ pub fn answer(
         "point" => point(alloc, tries, input),
         "insert" => insert(alloc, tries, input),
         "build" => build(alloc, tries, input),
+        "erase" => erase(alloc, input),
         "base64" => in_base64(alloc, tries, input),
         "well-known" => well_known(alloc, tries, input),
         _ => Err(RunFault::UnknownKind),

@@ -1,10 +1,12 @@
 //! Passkeys from the builder.
-use crate::hexadecimal::encode;
+use crate::hexadecimal::{decode, encode};
 use crate::tries::Tries;
 use passkey_run::RunFault;
 use passkey_types::cose::iana::KeyType;
 use passkey_types::cose::{CoseKey, Registered};
-use passkey_types::{Bytes, OutOfMemory, Passkey, PasskeyBuilder, StoredHmacSecret, Text};
+use passkey_types::{
+    Bytes, CredentialExtensions, OutOfMemory, Passkey, PasskeyBuilder, StoredHmacSecret, Text,
+};
 use rand_chacha::ChaCha20Rng;
 use rand_core::SeedableRng;
 use std::alloc::Global;
@@ -100,4 +102,17 @@ pub fn build(alloc: Global, tries: &mut Tries, input: &str) -> Result<String, Ru
     let text = described(alloc, tries, &mut passkey);
     drop(passkey);
     text
+}
+
+/// `BYTES`: a passkey's extension data with these secrets, once they are erased. No memory that is
+/// freed holds them then, which `tools/count-growths` looks at.
+pub fn erase(alloc: Global, input: &str) -> Result<String, RunFault> {
+    let cred_without_uv = Some(Bytes::from(decode(alloc, input)?));
+    let hmac_secret = Some(StoredHmacSecret {
+        cred_with_uv: Bytes::from(decode(alloc, input)?),
+        cred_without_uv,
+    });
+    let mut extensions = CredentialExtensions { hmac_secret };
+    extensions.zeroize();
+    Ok(format!(in alloc; "{extensions:?}")?)
 }
