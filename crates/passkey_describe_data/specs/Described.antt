@@ -1,6 +1,5 @@
 -- Data items of which no table is known, COSE keys and authenticator data, described.
-use Rattle.std.specs.Prelude.{ℕ, pos, negsuc, ◌^◌, ◌&&◌, not, List, [], ◌∷◌, ◌++◌, map, Bool, if◌then◌else◌, Option, Some, None, codes, unwrap_or}
-use Rattle.std.specs.List.{list_any}
+use Rattle.std.specs.Prelude.{ℕ, pos, negsuc, ◌^◌, ◌&&◌, ◌||◌, false, List, [], ◌∷◌, ◌++◌, map, Bool, if◌then◌else◌, Option, Some, None, codes, unwrap_or}
 use Rattle.std.specs.Str.{bytes_eq}
 use Rattle.passkey_cbor.specs.Item as item
 use Rattle.passkey_cbor.specs.Item.{Item, Items, Pairs, no_items, no_pairs, pair, number, byte_string, text_string, array, members}
@@ -42,24 +41,49 @@ abbrev mutual
 abbrev pub is_negative : ℕ → Item → Bool
 is_negative n label = item_eq label (number (negsuc n))
 
--- the name of a key's parameter (RFC 9052, section 7; RFC 9053, section 7; RFC 8230, section 4)
-abbrev pub parameter_name : Bool → Item → Option (List ℕ)
-parameter_name is_rsa i =
+-- The key has this type.
+abbrev pub has_type : ℕ → Option Item → Bool
+has_type n (Some i) = is_label n i
+has_type n None = false
+
+abbrev pub has_curve : Option Item → Bool
+has_curve kty = has_type 1 kty || has_type 2 kty
+
+-- the parameters -1, -2 and -3 of a key of this type, as IANA's registry of COSE key type parameters has them
+abbrev pub first_parameter : Option Item → Option (List ℕ)
+first_parameter kty =
+    if has_curve kty then Some (codes "crv") else (
+    if has_type 3 kty then Some (codes "n") else (
+    if has_type 4 kty then Some (codes "k") else (
+    if has_type 5 kty || has_type 7 kty then Some (codes "pub") else None)))
+
+abbrev pub second_parameter : Option Item → Option (List ℕ)
+second_parameter kty =
+    if has_curve kty then Some (codes "x") else (if has_type 3 kty then Some (codes "e") else None)
+
+-- the name of a parameter of a key of this type (RFC 9052, section 7; RFC 9053, section 7; RFC 8230,
+-- section 4; RFC 8778, section 3)
+abbrev pub parameter_name : Option Item → Item → Option (List ℕ)
+parameter_name kty i =
     if is_label 1 i then Some (codes "kty") else (
     if is_label 2 i then Some (codes "kid") else (
     if is_label 3 i then Some (codes "alg") else (
     if is_label 4 i then Some (codes "key_ops") else (
     if is_label 5 i then Some (codes "Base IV") else (
-    if is_negative 0 i then Some (if is_rsa then codes "n" else codes "crv") else (
-    if is_negative 1 i then Some (if is_rsa then codes "e" else codes "x") else (
-    if is_negative 2 i && not is_rsa then Some (codes "y") else None)))))))
+    if is_negative 0 i then first_parameter kty else (
+    if is_negative 1 i then second_parameter kty else (
+    if is_negative 2 i && has_type 2 kty then Some (codes "y") else None)))))))
 
--- the name of a key type (RFC 9053, section 7; RFC 8230, section 4)
+-- the name of a key type, as IANA's registry of COSE key types has it (RFC 9053, section 7; RFC 8230,
+-- section 4; RFC 8778, section 3)
 abbrev pub key_type_name : Item → Option (List ℕ)
 key_type_name i =
     if is_label 1 i then Some (codes "OKP") else (
     if is_label 2 i then Some (codes "EC2") else (
-    if is_label 3 i then Some (codes "RSA") else None))
+    if is_label 3 i then Some (codes "RSA") else (
+    if is_label 4 i then Some (codes "Symmetric") else (
+    if is_label 5 i then Some (codes "HSS-LMS") else (
+    if is_label 7 i then Some (codes "AKP") else None)))))
 
 -- the name of an elliptic curve (RFC 9053, section 7.1; RFC 8812, section 3.1)
 abbrev pub curve_name : Item → Option (List ℕ)
@@ -79,27 +103,28 @@ named_or (Some name) i = leaf wanted.Name (text_string name)
 named_or None i = described_item wanted.Any i
 
 -- key types and curves by their names, and algorithms as such
-abbrev pub described_parameter : Bool → Item → Item → Described
-described_parameter is_rsa label i =
+abbrev pub described_parameter : Option Item → Item → Item → Described
+described_parameter kty label i =
     if is_label 1 label then named_or (key_type_name i) i else (
     if is_label 3 label then leaf wanted.Algorithm i else (
-    if is_negative 0 label && not is_rsa then named_or (curve_name i) i else described_item wanted.Any i))
+    if is_negative 0 label && has_curve kty then named_or (curve_name i) i else described_item wanted.Any i))
 
 abbrev pub label_for : Option (List ℕ) → Item → Label
 label_for (Some name) i = member 0 name
 label_for None i = unknown i
 
-abbrev pub described_member : Bool → Item → Item → Part
-described_member is_rsa label i =
-    labelled (label_for (parameter_name is_rsa label) label) (described_parameter is_rsa label i)
+abbrev pub described_member : Option Item → Item → Item → Part
+described_member kty label i =
+    labelled (label_for (parameter_name kty label) label) (described_parameter kty label i)
 
--- one of the parameters is the key type RSA
-abbrev pub is_rsa : Members → Bool
-is_rsa ms = list_any (λ (m : Item × Item). is_label 1 m.0 && is_label 3 m.1) ms
+-- the key's type: the value of its first parameter 1
+abbrev pub key_type : Members → Option Item
+key_type [] = None
+key_type (m ∷ ms) = if is_label 1 m.0 then Some m.1 else key_type ms
 
 abbrev pub described_key : Item → Described
 described_key (item.map ps) = parts record_of_members
-    (parts_from (map (λ m. described_member (is_rsa (members ps)) m.0 m.1) (members ps)))
+    (parts_from (map (λ m. described_member (key_type (members ps)) m.0 m.1) (members ps)))
 described_key i = described_item wanted.Any i
 
 -- ---- authenticator data

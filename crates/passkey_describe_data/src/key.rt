@@ -6,7 +6,7 @@ ghost use Rattle.passkey_cose.specs.KeyLabels.{is_label};
 ghost use Rattle.passkey_explain.specs.Described as spec;
 ghost use Rattle.passkey_explain.specs.Described.{described_of};
 ghost use Rattle.passkey_kinds.specs.declared.wanted.Wanted.TheVariants as wanted;
-ghost use Rattle.passkey_describe_data.specs.Described.{field_of, curve_name, described_key, described_member, described_parameter, is_negative, is_rsa, key_type_name, named_or, parameter_name};
+ghost use Rattle.passkey_describe_data.specs.Described.{field_of, curve_name, described_key, described_member, described_parameter, first_parameter, has_curve, has_type, is_negative, key_type, key_type_name, named_or, parameter_name, second_parameter};
 
 use crate::item::describe_item;
 use passkey_cbor::Value;
@@ -35,10 +35,59 @@ fn is_negative(label: &Value, n: u8) -> bool
     }
 }
 
-/// Returns the name of a key's parameter (RFC 9052, section 7; RFC 9053, section 7; RFC 8230,
-/// section 4).
-fn parameter_name(is_rsa: bool, label: &Value) -> Option<&'static str>
-    ensures { option_map (λ s. s.now) result ≡ parameter_name is_rsa (item_of label.now) }
+/// Whether the key has this type.
+fn has_type(key_type: Option<&Value>, n: u8) -> bool
+    ensures { result ≡ has_type n (option_map (λ v. item_of v.now) key_type) }
+{
+    match key_type {
+        Some(value) => is_label(value, n),
+        None => false,
+    }
+}
+
+/// Whether the key is an octet key pair or a point of an elliptic curve.
+fn has_curve(key_type: Option<&Value>) -> bool
+    ensures { result ≡ has_curve (option_map (λ v. item_of v.now) key_type) }
+{
+    has_type(key_type, 1) || has_type(key_type, 2)
+}
+
+/// Returns the name of the parameter -1 of a key of this type.
+fn first_parameter(key_type: Option<&Value>) -> Option<&'static str>
+    ensures { option_map (λ s. s.now) result ≡ first_parameter (option_map (λ v. item_of v.now) key_type) }
+{
+    if has_curve(key_type) {
+        Some("crv")
+    } else if has_type(key_type, 3) {
+        Some("n")
+    } else if has_type(key_type, 4) {
+        Some("k")
+    } else if has_type(key_type, 5) || has_type(key_type, 7) {
+        Some("pub")
+    } else {
+        None
+    }
+}
+
+/// Returns the name of the parameter -2 of a key of this type.
+fn second_parameter(key_type: Option<&Value>) -> Option<&'static str>
+    ensures { option_map (λ s. s.now) result ≡ second_parameter (option_map (λ v. item_of v.now) key_type) }
+{
+    if has_curve(key_type) {
+        Some("x")
+    } else if has_type(key_type, 3) {
+        Some("e")
+    } else {
+        None
+    }
+}
+
+/// Returns the name of a parameter of a COSE key of this type, by the parameter's label; `None` if
+/// IANA's registries of COSE key parameters were not known to have one for it (RFC 9052, section 7;
+/// RFC 9053, section 7; RFC 8230, section 4; RFC 8778, section 3).
+pub fn parameter_name(key_type: Option<&Value>, label: &Value) -> Option<&'static str>
+    ensures { option_map (λ s. s.now) result
+        ≡ parameter_name (option_map (λ v. item_of v.now) key_type) (item_of label.now) }
 {
     if is_label(label, 1) {
         Some("kty")
@@ -51,17 +100,18 @@ fn parameter_name(is_rsa: bool, label: &Value) -> Option<&'static str>
     } else if is_label(label, 5) {
         Some("Base IV")
     } else if is_negative(label, 0) {
-        Some(if is_rsa { "n" } else { "crv" })
+        first_parameter(key_type)
     } else if is_negative(label, 1) {
-        Some(if is_rsa { "e" } else { "x" })
-    } else if is_negative(label, 2) && !is_rsa {
+        second_parameter(key_type)
+    } else if is_negative(label, 2) && has_type(key_type, 2) {
         Some("y")
     } else {
         None
     }
 }
 
-/// Returns the name of a key type (RFC 9053, section 7; RFC 8230, section 4).
+/// Returns the name of a key type, as IANA's registry of COSE key types has it (RFC 9053, section 7;
+/// RFC 8230, section 4; RFC 8778, section 3).
 fn key_type_name(value: &Value) -> Option<&'static str>
     ensures { option_map (λ s. s.now) result ≡ key_type_name (item_of value.now) }
 {
@@ -71,6 +121,12 @@ fn key_type_name(value: &Value) -> Option<&'static str>
         Some("EC2")
     } else if is_label(value, 3) {
         Some("RSA")
+    } else if is_label(value, 4) {
+        Some("Symmetric")
+    } else if is_label(value, 5) {
+        Some("HSS-LMS")
+    } else if is_label(value, 7) {
+        Some("AKP")
     } else {
         None
     }
@@ -124,18 +180,19 @@ fn named_or(
 
 fn describe_parameter(
     alloc: Global,
-    is_rsa: bool,
+    key_type: Option<&Value>,
     label: &Value,
     value: &Value,
 ) -> Result<Description, OutOfMemory>
     ensures { IfOk result (λ d. described_of d
-        ≡ described_parameter is_rsa (item_of label.now) (item_of value.now)) }
+        ≡ described_parameter (option_map (λ v. item_of v.now) key_type) (item_of label.now)
+        (item_of value.now)) }
 {
     if is_label(label, 1) {
         named_or(alloc, key_type_name(value), value)
     } else if is_label(label, 3) {
         Ok(Description::Leaf(Wanted::Algorithm, value.try_clone(alloc)?))
-    } else if is_negative(label, 0) && !is_rsa {
+    } else if is_negative(label, 0) && has_curve(key_type) {
         named_or(alloc, curve_name(value), value)
     } else {
         describe_item(alloc, value)
@@ -144,43 +201,45 @@ fn describe_parameter(
 
 fn describe_member(
     alloc: Global,
-    is_rsa: bool,
+    key_type: Option<&Value>,
     label: &Value,
     value: &Value,
 ) -> Result<(FieldName, Description), OutOfMemory>
-    ensures { IfOk result (λ p. field_of p ≡ described_member is_rsa (item_of label.now) (item_of value.now)) }
+    ensures { IfOk result (λ p. field_of p
+        ≡ described_member (option_map (λ v. item_of v.now) key_type) (item_of label.now) (item_of value.now)) }
 {
-    let description = describe_parameter(alloc, is_rsa, label, value)?;
-    let name = match parameter_name(is_rsa, label) {
+    let description = describe_parameter(alloc, key_type, label, value)?;
+    let name = match parameter_name(key_type, label) {
         Some(name) => FieldName::Member(0, name),
         None => FieldName::Unknown(label.try_clone(alloc)?),
     };
     Ok((name, description))
 }
 
-/// Whether one of the parameters is the key type RSA.
-fn is_rsa(pairs: &[(Value, Value)]) -> bool
-    ensures { result ≡ is_rsa (map pair_of pairs.now) }
+/// Returns the value of the first parameter 1, which is the key's type.
+fn key_type_of(pairs: &[(Value, Value)]) -> Option<&Value>
+    ensures { option_map (λ v. item_of v.now) result ≡ key_type (map pair_of pairs.now) }
 {
     for (label, value) in pairs {
-        if is_label(label, 1) && is_label(value, 3) {
-            return true;
+        if is_label(label, 1) {
+            return Some(value);
         }
     }
-    false
+    None
 }
 
 fn describe_members(
     alloc: Global,
-    is_rsa: bool,
+    key_type: Option<&Value>,
     pairs: &[(Value, Value)],
 ) -> Result<Vec<(FieldName, Description)>, OutOfMemory>
     ensures { IfOk result (λ v. map field_of v.items
-        ≡ map (λ m. described_member is_rsa m.0 m.1) (map pair_of pairs.now)) }
+        ≡ map (λ m. described_member (option_map (λ v. item_of v.now) key_type) m.0 m.1)
+        (map pair_of pairs.now)) }
 {
     let mut all = Vec::new(alloc);
     for (label, value) in pairs {
-        all.push(describe_member(alloc, is_rsa, label, value)?)?;
+        all.push(describe_member(alloc, key_type, label, value)?)?;
     }
     Ok(all)
 }
@@ -193,7 +252,7 @@ pub fn describe_key(alloc: Global, value: &Value) -> Result<Description, OutOfMe
     match value {
         Value::Map(pairs) => Ok(Description::Record(describe_members(
             alloc,
-            is_rsa(pairs),
+            key_type_of(pairs),
             pairs,
         )?)),
         _ => describe_item(alloc, value),

@@ -8,4 +8,4 @@ mod key;
 
 pub use data::describe_data;
 pub use item::describe_item;
-pub use key::describe_key;
+pub use key::{describe_key, parameter_name};

@@ -4,7 +4,7 @@ use Rattle.std.proofs.Common.{Bor, IfOk, append_assoc, append-nil}
 use Rattle.std.proofs.lemmas.List.{map-append}
 use Rattle.std.proofs.lemmas.Bool.Decides.{nat_tests}
 use Rattle.passkey_explain.specs.Blame.{Blame, Step, wants, at_fault, under, element, member, value, key, step_of}
-use Rattle.passkey_explain.specs.Blaming.{blamed, blamed_row, accepts_in, accepted_by, blame_elements, list_blame, blame_entries, map_blame, blame_from, blame_one, blame_missing, name_at, seen_with, record_blame}
+use Rattle.passkey_explain.specs.Blaming.{blamed, blamed_row, accepts_in, accepted_by, blame_elements, list_blame, blame_entries, map_blame, blame_from, blame_one, name_at, seen_with, record_blame}
 use Rattle.passkey_explain.specs.Next.{blame_next, IntoRow, IsRecordAt, NextIs}
 use Rattle.passkey_explain.specs.declared.blame.Reason.{Reason}
 use Rattle.passkey_explain.specs.declared.blame.Step.{Step as CodeStep}

@@ -1,5 +1,5 @@
 -- What is left out is refused where any item is tolerated.
-use Rattle.std.proofs.Common.{◌≡◌, ◌∙◌, ℕ, suc, ◌==◌, Bool, true, false, if◌then◌else◌, List, [], ◌∷◌, ◌++◌, Option, Some, None, option_map, slice_get, inl, inr, refl, sym, ap}
+use Rattle.std.proofs.Common.{◌≡◌, ◌∙◌, ℕ, suc, ◌==◌, Bool, true, false, if◌then◌else◌, List, [], ◌∷◌, ◌++◌, Option, Some, None, option_map, slice_get, inl, inr, refl, ap}
 use Rattle.std.proofs.lemmas.List.Elements.{All-nil, All-cons, All-append}
 use Rattle.std.specs.List.{All}
 use Rattle.std.specs.Option.{option_and_then}
@@ -8,9 +8,9 @@ use Rattle.passkey_cbor.specs.Item.{Item, array, elements, members}
 use Rattle.passkey_explain.proofs.BlameLaws.{AreLeft, first_left, others_left, all_left}
 use Rattle.passkey_explain.proofs.Blames.{reached_further, some_same}
 use Rattle.passkey_explain.proofs.Refusals.{refused}
-use Rattle.passkey_explain.specs.Blame.{Step, element, member, value, item_along, part_at}
-use Rattle.passkey_explain.specs.Blaming.{blamed, name_at}
-use Rattle.passkey_explain.specs.Dropped.{LeftOut, Leaving, Stepping, dropped, dropped_row, dropped_elements, dropped_list, dropped_value, dropped_pairs, dropped_map, entry_step, step_by, member_step}
+use Rattle.passkey_explain.specs.Blame.{Step, element, item_along, part_at}
+use Rattle.passkey_explain.specs.Blaming.{blamed}
+use Rattle.passkey_explain.specs.Dropped.{Leaving, Stepping, dropped, dropped_row, dropped_elements, dropped_list, dropped_value, dropped_pairs, dropped_map, entry_step, step_by, member_step}
 use Rattle.passkey_explain.specs.Drops.{IsLeftOut, Tolerates}
 use Rattle.passkey_kinds.specs.Record.{Members, Naming, row, unknown, wrong, names}
 use Rattle.passkey_kinds.specs.Shape.{Entry, Shape, leaf, record_of, Rows, no_rows, Tested, reached, part_of, row_in, entries_in}

@@ -1,35 +1,17 @@
 //! Refusals as a person reads them.
 
 use crate::{DataPart, DataReason, DataRefusal, KeyBlame, KeyRefusal};
+use passkey_cbor::Value;
 use passkey_cose::CoseError;
-use passkey_cose::iana::{EnumI64, KeyType};
+use passkey_describe_data::parameter_name;
 use std::fmt;
-
-/// Returns the name of a parameter of a key (RFC 9052, section 7.1; RFC 9053, section 7; RFC 8230,
-/// section 4).
-fn label_name(key_type: Option<i64>, label: i64) -> Option<&'static str> {
-    match (label, key_type.and_then(KeyType::from_i64)) {
-        (1, _) => Some("kty"),
-        (2, _) => Some("kid"),
-        (3, _) => Some("alg"),
-        (4, _) => Some("key_ops"),
-        (5, _) => Some("Base IV"),
-        (-1, Some(KeyType::RSA)) => Some("n"),
-        (-2, Some(KeyType::RSA)) => Some("e"),
-        (-1, Some(KeyType::OKP | KeyType::EC2)) => Some("crv"),
-        (-2, Some(KeyType::OKP | KeyType::EC2)) => Some("x"),
-        (-3, Some(KeyType::EC2)) => Some("y"),
-        (-1, Some(KeyType::Symmetric)) => Some("k"),
-        _ => None,
-    }
-}
 
 fn write_label<W: fmt::Write>(
     f: &mut fmt::Formatter<W>,
     key_type: Option<i64>,
     label: i64,
 ) -> fmt::Result {
-    match label_name(key_type, label) {
+    match parameter_name(key_type.map(Value::from).as_ref(), &Value::from(label)) {
         Some(name) => f.write_str(name),
         None => write!(f, "label {label}"),
     }

@@ -1,25 +1,27 @@
-use Rattle.std.proofs.Common.{◌≡◌, ◌∙◌, List, Bool, map, sym, ap}
+use Rattle.std.proofs.Common.{◌≡◌, ◌∙◌, List, Option, option_map, Bor, map, sym, ap}
 use Rattle.passkey_cbor.proofs.Views.{item_of-Map}
+use Rattle.passkey_cbor.specs.Item.{Item}
 use Rattle.passkey_cbor.specs.View.{item_of, pair_of}
 use Rattle.passkey_cbor.specs.declared.value.Value.{Value}
 use Rattle.passkey_cbor.proofs.Items.{members-pairs_of}
 use Rattle.passkey_cose.specs.KeyLabels.{Members}
 use Rattle.passkey_explain.proofs.Describing.{described_of-Record}
 use Rattle.passkey_explain.specs.Described.{Described, Part, parts, parts_from, record_of_members}
-use Rattle.passkey_describe_data.specs.Described.{described_key, described_member, is_rsa}
+use Rattle.passkey_describe_data.specs.Described.{described_key, described_member, key_type}
 use Rattle.passkey_describe_data.proofs.key.describe_key.Goals as goal
 
 pub returns-in_ok-describe_members-in-Map : goal.returns-in_ok-describe_members-in-Map
 returns-in_ok-describe_members-in-Map c =
-    let described : Bool → Members → Described =
+    let described : Option Item → Members → Described =
     λ b ms. parts record_of_members (parts_from (map (λ m. described_member b m.0 m.1) ms)) in
     let pairs = c.in-Map.pairs.items in
     let members = map pair_of pairs in
     let is = ap item_of c.in-Map.is ∙ item_of-Map c.in-Map.pairs in
-    let rsa : c.is_rsa.result ≡ is_rsa members =
-    c.is_rsa.ensures ∙ ap (λ (ps : List (Value × Value)). is_rsa (map pair_of ps)) c.deref.ensures.value in
+    let type_of : Option (Bor Value) → Option Item = option_map (λ (v : Bor Value). item_of v.now) in
+    let typed : type_of c.key_type_of.result ≡ key_type members =
+    c.key_type_of.ensures ∙ ap (λ (ps : List (Value × Value)). key_type (map pair_of ps)) c.deref.ensures.value in
     described_of-Record c.in_ok-describe_members-in-Map.field-0
     ∙ ap (λ (ps : List Part). parts record_of_members (parts_from ps)) c.in_ok-describe_members-in-Map.ensures
-    ∙ ap (λ (ps : List (Value × Value)). described c.is_rsa.result (map pair_of ps)) c.deref-in-Map.ensures.value
-    ∙ ap (λ (b : Bool). described b members) rsa
-    ∙ sym (ap (λ (ms : Members). described (is_rsa ms) ms) (members-pairs_of members)) ∙ sym (ap described_key is)
+    ∙ ap (λ (ps : List (Value × Value)). described (type_of c.key_type_of.result) (map pair_of ps)) c.deref-in-Map.ensures.value
+    ∙ ap (λ (b : Option Item). described b members) typed
+    ∙ sym (ap (λ (ms : Members). described (key_type ms) ms) (members-pairs_of members)) ∙ sym (ap described_key is)

@@ -2,7 +2,6 @@ use Rattle.passkey_kinds.proofs.Steps.{◌∙◌, ap, ℕ, List, item_of}
 use Rattle.passkey_explain.proofs.Blames.{descent_begins, one_more_step, goes_into, less_left, ends_here, ends_at_key}
 use Rattle.passkey_kinds.specs.Look.{tested}
 use Rattle.passkey_kinds.specs.Shape.{reached}
-use Rattle.passkey_explain.specs.Blame.{step_of}
 use Rattle.passkey_explain.specs.declared.blame.Step.TheVariants as code
 use Rattle.passkey_explain.proofs.descent.explain_at.Goals as goal
 

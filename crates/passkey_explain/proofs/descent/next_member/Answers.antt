@@ -1,4 +1,4 @@
-use Rattle.passkey_kinds.proofs.Steps.{◌∙◌, ◌<◌, length, sym, arith, item_of}
+use Rattle.passkey_kinds.proofs.Steps.{rules, ◌∙◌, ◌<◌, length, sym, arith, item_of}
 use Rattle.passkey_explain.proofs.Blames.{row_there, row_accepts, one_passes, one_refused, marked_with}
 use Rattle.passkey_explain.proofs.descent.next_member.Goals as goal
 
@@ -18,7 +18,8 @@ returns-then-branch-clause-marks g c = λ rows h ok.
     let n = c.in-Some-Row.number in
     let label = item_of c.args.key.now in
     let naming = sym (rw c.in-Some-Row.field-0-is at c.in-Some-Row.ensures) in
-    let within : n < length c.args.seen.now = omega (arith, c.mark.array_long, c.told-seen) in
+    let small : n < 256 = search rules in
+    let within : n < length c.args.seen.now = omega (arith, c.mark.array_long, c.told-seen, small) in
     marked_with c.args.seen.now c.mark.new.seen n _ naming within c.mark.ensures
 
 pub returns-clause-blames : goal.returns-clause-blames

@@ -1,11 +1,11 @@
-use Rattle.std.proofs.Common.{◌≡◌, ◌∙◌, ℕ, suc, ◌+◌, ◌++◌, ◌∷◌, [], List, map, option_map, Option, Some, refl, sym, ap, subst, arith, rules}
+use Rattle.std.proofs.Common.{◌≡◌, ◌∙◌, ℕ, ◌+◌, ◌++◌, ◌∷◌, [], List, map, option_map, Option, Some, refl, sym, ap, subst, arith, rules}
 use Rattle.std.specs.Prelude.{IfSome}
 use Rattle.passkey_cbor.specs.CursorState.{CursorState}
 use Rattle.passkey_cbor.specs.EncodedAt.{IsEncodedAt}
 use Rattle.passkey_cbor.specs.Item as item
 use Rattle.passkey_cbor.specs.declared.value.Value.{Value}
 use Rattle.passkey_kinds.proofs.Common.{array, entry_of, items_of, item_of-Array, item_of-Map}
-use Rattle.passkey_kinds.proofs.Steps.{Item, item_of, pair_of, pairs_of, mapped_at}
+use Rattle.passkey_kinds.proofs.Steps.{item_of, pair_of, pairs_of, mapped_at}
 use Rattle.passkey_kinds.specs.Look.{tested, HasForm}
 use Rattle.passkey_kinds.specs.Shape.{Tested, reached}
 use Rattle.passkey_kinds.specs.declared.look.Form.{Form}

@@ -1,9 +1,8 @@
-use Rattle.std.proofs.Common.{◌≡◌, ◌∙◌, [], ◌++◌, List, ap, sym, refl, subst, map}
+use Rattle.std.proofs.Common.{◌∙◌, [], ◌++◌, List, ap, sym, refl, subst, map}
 use Rattle.std.proofs.lemmas.List.Elements.{All-nil, All-same}
 use Rattle.passkey_cbor.specs.CursorState.{CursorState}
 use Rattle.passkey_explain.proofs.DropLaws.{shape_left}
 use Rattle.passkey_explain.proofs.LeavesOut.{whole_stands}
-use Rattle.passkey_explain.specs.Blame.{step_of}
 use Rattle.passkey_explain.specs.Dropped.{dropped}
 use Rattle.passkey_explain.specs.declared.dropping.DroppedItem.{DroppedItem}
 use Rattle.passkey_explain.specs.Drops.{IsLeftOut, LiesIn, Stands, left_out}

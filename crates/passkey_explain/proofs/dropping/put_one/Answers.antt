@@ -1,4 +1,4 @@
-use Rattle.std.proofs.Common.{refl, subst, sym, ◌+◌, ap, ℕ, List}
+use Rattle.std.proofs.Common.{subst, sym, ℕ, List}
 use Rattle.std.proofs.lemmas.List.Elements.{All-push, All-same}
 use Rattle.passkey_cbor.specs.EncodedAt.{IsEncodedAt}
 use Rattle.passkey_explain.proofs.LeavesOut.{lies_here}
