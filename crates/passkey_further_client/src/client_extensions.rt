@@ -14,7 +14,8 @@ use passkey_webauthn::AuthenticationExtensionsPrfOutputs;
 use std::alloc::Global;
 
 /// Inputs of client extensions: what a relying party asks for (WebAuthn Level 3, section 9.3). These
-/// are the registered ones of Level 2 on, those of CTAP, and payment. `None` means that the member is absent; null also decodes to `None`.
+/// are the registered ones of Level 2 on, those of CTAP, and payment. `None` means that the member is
+/// absent; null also decodes to `None`.
 #[derive(Debug, Drop)]
 pub struct ClientExtensionInputs {
     /// appid: the AppID of U2F under which credentials may be used, at a sign-in (WebAuthn Level 3,
@@ -141,8 +142,9 @@ impl PlainJsonRecord for ClientExtensionInputs {
     }
 }
 
-/// Outputs of client extensions: what the client returns (WebAuthn Level 3, section 9.4). These are
-/// those of `ClientExtensionInputs`, and what webauthn-rs adds. `None` means that the member is absent; null also decodes to `None`.
+/// Outputs of client extensions: what the client returns (WebAuthn Level 3, section 9.4): those of
+/// `ClientExtensionInputs`, and what webauthn-rs adds. `None` means that the member is absent; null
+/// also decodes to `None`.
 #[derive(Debug, Drop)]
 pub struct ClientExtensionOutputs {
     /// appid: whether the AppID of U2F was used (WebAuthn Level 3, section 10.1.1).
