@@ -1,7 +1,7 @@
 #!/usr/bin/env python3
 """heads.py [--stdout] prints rows of crates/passkey_rows, `heads-KIND MESSAGE` for each message of hostile.py in a small size,
-for messages of the further commands, and for authenticator data that are whole, cut off or in chunks; with --stdout what they have to print: the heads and the nodes that decoding the message at a
-cursor counts, and whether it is accepted.
+for messages of the further commands, and for authenticator data that are whole, cut off or in chunks; with --stdout what they have to
+print: the heads and the nodes that decoding the message at a cursor counts, and whether it is accepted.
 
 The counts are worked out here, from the message alone, by what docs/CONTRACTS.md says of each call and docs/DECISIONS.md of the
 order of calls: a message is skipped once, and each value is then decoded once, from left to right; what is refused where that is

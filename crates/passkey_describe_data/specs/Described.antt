@@ -1,9 +1,12 @@
 -- Data items of which no table is known, COSE keys and authenticator data, described.
-use Rattle.std.specs.Prelude.{ℕ, pos, negsuc, ◌^◌, ◌&&◌, ◌||◌, false, List, [], ◌∷◌, ◌++◌, map, Bool, if◌then◌else◌, Option, Some, None, codes, unwrap_or}
+use Rattle.std.specs.Prelude.{ℕ, pos, negsuc, ◌^◌, ◌&&◌, ◌||◌, false, List, [], ◌∷◌, ◌++◌, map, Bool, if◌then◌else◌, Option, Some, None, option_map, codes, unwrap_or}
+use Rattle.std.specs.Borrow.{Bor}
 use Rattle.std.specs.Str.{bytes_eq}
 use Rattle.passkey_cbor.specs.Item as item
 use Rattle.passkey_cbor.specs.Item.{Item, Items, Pairs, no_items, no_pairs, pair, number, byte_string, text_string, array, members}
 use Rattle.passkey_cbor.specs.Same.{item_eq}
+use Rattle.passkey_cbor.specs.View.{item_of}
+use Rattle.passkey_cbor.specs.declared.value.Value.{Value}
 use Rattle.passkey_core.specs.DataFlags.{has_flag}
 use Rattle.passkey_core.specs.DataParts.{AttestedParts, DataParts}
 use Rattle.passkey_cose.specs.KeyParts.{key_item}
@@ -40,6 +43,10 @@ abbrev mutual
 -- the label -1 - n
 abbrev pub is_negative : ℕ → Item → Bool
 is_negative n label = item_eq label (number (negsuc n))
+
+-- the type of a key, as the code has it
+abbrev pub type_of : Option (Bor Value) → Option Item
+type_of kty = option_map (λ (v : Bor Value). item_of v.now) kty
 
 -- The key has this type.
 abbrev pub has_type : ℕ → Option Item → Bool

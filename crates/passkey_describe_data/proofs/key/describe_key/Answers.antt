@@ -1,4 +1,4 @@
-use Rattle.std.proofs.Common.{◌≡◌, ◌∙◌, List, Option, option_map, Bor, map, sym, ap}
+use Rattle.std.proofs.Common.{◌≡◌, ◌∙◌, List, Option, map, sym, ap}
 use Rattle.passkey_cbor.proofs.Views.{item_of-Map}
 use Rattle.passkey_cbor.specs.Item.{Item}
 use Rattle.passkey_cbor.specs.View.{item_of, pair_of}
@@ -7,7 +7,7 @@ use Rattle.passkey_cbor.proofs.Items.{members-pairs_of}
 use Rattle.passkey_cose.specs.KeyLabels.{Members}
 use Rattle.passkey_explain.proofs.Describing.{described_of-Record}
 use Rattle.passkey_explain.specs.Described.{Described, Part, parts, parts_from, record_of_members}
-use Rattle.passkey_describe_data.specs.Described.{described_key, described_member, key_type}
+use Rattle.passkey_describe_data.specs.Described.{described_key, described_member, key_type, type_of}
 use Rattle.passkey_describe_data.proofs.key.describe_key.Goals as goal
 
 pub returns-in_ok-describe_members-in-Map : goal.returns-in_ok-describe_members-in-Map
@@ -17,7 +17,6 @@ returns-in_ok-describe_members-in-Map c =
     let pairs = c.in-Map.pairs.items in
     let members = map pair_of pairs in
     let is = ap item_of c.in-Map.is ∙ item_of-Map c.in-Map.pairs in
-    let type_of : Option (Bor Value) → Option Item = option_map (λ (v : Bor Value). item_of v.now) in
     let typed : type_of c.key_type_of.result ≡ key_type members =
     c.key_type_of.ensures ∙ ap (λ (ps : List (Value × Value)). key_type (map pair_of ps)) c.deref.ensures.value in
     described_of-Record c.in_ok-describe_members-in-Map.field-0
