@@ -10,12 +10,12 @@ use std::alloc::Global;
 /// How many colours there are; the members of the outermost item have them in turn.
 const COLOURS: usize = 6;
 
-/// What stands before the tree. The colours are told by class, and an item is lit where the pointer
-/// is, with all that is in it.
+/// What stands before the tree. The colours are told by class. The innermost item under the pointer is
+/// lit, with all that is in it.
 const STYLE: &str = "<style>
 body { font: 14px/1.5 sans-serif; margin: 1em; color: #222; background: #fff; }
 ul { list-style: none; margin: 0; padding: 0 0 0 1.5em; border-left: 1px solid #ddd; }
-li:hover { background: #fff3c4; }
+li:hover:not(:has(li:hover)) { background: #fff3c4; }
 code { font-size: 12px; color: #555; overflow-wrap: anywhere; }
 b { margin-right: .5em; }
 .c0 b { color: #b00020; } .c1 b { color: #1b5e20; } .c2 b { color: #0d47a1; }
@@ -208,11 +208,16 @@ pub fn page_of(
     push_head(&mut out, title)?;
     out.push_str("<ul>\n")?;
     let mut cursor = Cursor::new(bytes);
-    let (own, is_entered, _) = enter(bytes, &mut cursor);
     let shown = Shown {
         name: title,
         colour: None,
     };
+    if let Description::Leaf(_, _) = description {
+        push_item(&mut out, alloc, shown, description, bytes, &mut cursor)?;
+        out.push_str("</ul>\n")?;
+        return Ok(out);
+    }
+    let (own, is_entered, _) = enter(bytes, &mut cursor);
     open_item(&mut out, alloc, shown, "", own)?;
     out.push_str("<ul>\n")?;
     if is_entered {
@@ -232,7 +237,8 @@ pub fn page_of(
 }
 
 /// Returns a page of HTML with the reason for a refusal, and the bytes, of which those from one
-/// offset to another are marked. Returns `OutOfMemory` if an allocation fails.
+/// offset to another are marked, or the place between two if there are none. Returns `OutOfMemory` if
+/// an allocation fails.
 pub fn refusal_page(
     alloc: Global,
     title: &str,
@@ -248,7 +254,12 @@ pub fn refusal_page(
     out.push_str("</pre>\n<p><code>")?;
     out.push_str(hex::encode(alloc, part(bytes, 0, from))?.as_str())?;
     out.push_str("<mark>")?;
-    out.push_str(hex::encode(alloc, part(bytes, from, to))?.as_str())?;
+    let marked = part(bytes, from, to);
+    if marked.is_empty() {
+        out.push_str("&nbsp;")?;
+    } else {
+        out.push_str(hex::encode(alloc, marked)?.as_str())?;
+    }
     out.push_str("</mark>")?;
     out.push_str(hex::encode(alloc, part(bytes, to, bytes.len()))?.as_str())?;
     out.push_str("</code></p>\n")?;
