@@ -293,6 +293,21 @@ fn is_frame_alone(body: &Body<'_>) -> bool {
     }
 }
 
+/// Returns what is printed of bytes as the kind, or the lines before a report if they are all.
+fn print_unknown(
+    alloc: Global,
+    output: Output,
+    body: &Body<'_>,
+    kind: InspectKind,
+) -> Result<String, InspectFault>
+    ensures { IfOk result (λ text. Prints output kind body.now.bytes.now (string_bytes text)) }
+{
+    match output {
+        Output::Report if is_frame_alone(body) => Ok(heading(alloc, body)?),
+        _ => print_as(alloc, output, body, kind),
+    }
+}
+
 /// Returns what is printed of a message as the best of the kinds, or as a data item if there is none.
 fn print_best(
     alloc: Global,
@@ -303,10 +318,7 @@ fn print_best(
     ensures { IfOk result (λ text. PrintsAs output body.now.bytes.now (string_bytes text)) }
 {
     let Some((kind, contents)) = &matches.best else {
-        return match output {
-            Output::Report if is_frame_alone(body) => Ok(heading(alloc, body)?),
-            _ => print_as(alloc, output, body, CBOR),
-        };
+        return print_unknown(alloc, output, body, CBOR);
     };
     match output {
         Output::Report => Ok(report_found(alloc, body, matches, *kind, contents)?),
