@@ -4,6 +4,7 @@ use passkey_cbor::Value;
 use passkey_explain::{Description, FieldName};
 use passkey_memory::OutOfMemory;
 use passkey_run::BytesKind;
+use passkey_webauthn::EnumNames;
 use std::alloc::Global;
 
 /// Returns the number of an unknown member that `info-23` has (CTAP 2.3, section 6.4).
