@@ -125,13 +125,13 @@ described_member kty label i =
     labelled (label_for (parameter_name kty label) label) (described_parameter kty label i)
 
 -- the key's type: the value of its first parameter 1
-abbrev pub key_type : Members → Option Item
-key_type [] = None
-key_type (m ∷ ms) = if is_label 1 m.0 then Some m.1 else key_type ms
+abbrev pub type_in : Members → Option Item
+type_in [] = None
+type_in (m ∷ ms) = if is_label 1 m.0 then Some m.1 else type_in ms
 
 abbrev pub described_key : Item → Described
 described_key (item.map ps) = parts record_of_members
-    (parts_from (map (λ m. described_member (key_type (members ps)) m.0 m.1) (members ps)))
+    (parts_from (map (λ m. described_member (type_in (members ps)) m.0 m.1) (members ps)))
 described_key i = described_item wanted.Any i
 
 -- ---- authenticator data

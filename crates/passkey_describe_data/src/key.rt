@@ -6,7 +6,7 @@ ghost use Rattle.passkey_cose.specs.KeyLabels.{is_label};
 ghost use Rattle.passkey_explain.specs.Described as spec;
 ghost use Rattle.passkey_explain.specs.Described.{described_of};
 ghost use Rattle.passkey_kinds.specs.declared.wanted.Wanted.TheVariants as wanted;
-ghost use Rattle.passkey_describe_data.specs.Described.{field_of, curve_name, described_key, described_member, described_parameter, first_parameter, has_curve, has_type, is_negative, key_type, key_type_name, named_or, parameter_name, second_parameter, type_of};
+ghost use Rattle.passkey_describe_data.specs.Described.{field_of, curve_name, described_key, described_member, described_parameter, first_parameter, has_curve, has_type, is_negative, key_type_name, named_or, parameter_name, second_parameter, type_in, type_of};
 
 use crate::item::describe_item;
 use passkey_cbor::Value;
@@ -37,7 +37,7 @@ fn is_negative(label: &Value, n: u8) -> bool
 
 /// Whether the key has this type.
 fn has_type(key_type: Option<&Value>, n: u8) -> bool
-    ensures { result ≡ has_type n (type_of key_type) }
+    ensures { result ≡ has_type n (type_of key_type.entry) }
 {
     match key_type {
         Some(value) => is_label(value, n),
@@ -47,14 +47,14 @@ fn has_type(key_type: Option<&Value>, n: u8) -> bool
 
 /// Whether the key is an octet key pair or a point of an elliptic curve.
 fn has_curve(key_type: Option<&Value>) -> bool
-    ensures { result ≡ has_curve (type_of key_type) }
+    ensures { result ≡ has_curve (type_of key_type.entry) }
 {
     has_type(key_type, 1) || has_type(key_type, 2)
 }
 
 /// Returns the name of the parameter -1 of a key of this type.
 fn first_parameter(key_type: Option<&Value>) -> Option<&'static str>
-    ensures { option_map (λ s. s.now) result ≡ first_parameter (type_of key_type) }
+    ensures { option_map (λ s. s.now) result ≡ first_parameter (type_of key_type.entry) }
 {
     if has_curve(key_type) {
         Some("crv")
@@ -71,7 +71,7 @@ fn first_parameter(key_type: Option<&Value>) -> Option<&'static str>
 
 /// Returns the name of the parameter -2 of a key of this type.
 fn second_parameter(key_type: Option<&Value>) -> Option<&'static str>
-    ensures { option_map (λ s. s.now) result ≡ second_parameter (type_of key_type) }
+    ensures { option_map (λ s. s.now) result ≡ second_parameter (type_of key_type.entry) }
 {
     if has_curve(key_type) {
         Some("x")
@@ -87,7 +87,7 @@ fn second_parameter(key_type: Option<&Value>) -> Option<&'static str>
 /// RFC 9053, section 7; RFC 8230, section 4; RFC 8778, section 3).
 pub fn parameter_name(key_type: Option<&Value>, label: &Value) -> Option<&'static str>
     ensures { option_map (λ s. s.now) result
-        ≡ parameter_name (type_of key_type) (item_of label.now) }
+        ≡ parameter_name (type_of key_type.entry) (item_of label.now) }
 {
     if is_label(label, 1) {
         Some("kty")
@@ -185,7 +185,7 @@ fn describe_parameter(
     value: &Value,
 ) -> Result<Description, OutOfMemory>
     ensures { IfOk result (λ d. described_of d
-        ≡ described_parameter (type_of key_type) (item_of label.now) (item_of value.now)) }
+        ≡ described_parameter (type_of key_type.entry) (item_of label.now) (item_of value.now)) }
 {
     if is_label(label, 1) {
         named_or(alloc, key_type_name(value), value)
@@ -205,7 +205,7 @@ fn describe_member(
     value: &Value,
 ) -> Result<(FieldName, Description), OutOfMemory>
     ensures { IfOk result (λ p. field_of p
-        ≡ described_member (type_of key_type) (item_of label.now) (item_of value.now)) }
+        ≡ described_member (type_of key_type.entry) (item_of label.now) (item_of value.now)) }
 {
     let description = describe_parameter(alloc, key_type, label, value)?;
     let name = match parameter_name(key_type, label) {
@@ -217,7 +217,7 @@ fn describe_member(
 
 /// Returns the value of the first parameter 1, which is the key's type.
 fn key_type_of(pairs: &[(Value, Value)]) -> Option<&Value>
-    ensures { type_of result ≡ key_type (map pair_of pairs.now) }
+    ensures { type_of result ≡ type_in (map pair_of pairs.now) }
 {
     for (label, value) in pairs {
         if is_label(label, 1) {
@@ -233,7 +233,7 @@ fn describe_members(
     pairs: &[(Value, Value)],
 ) -> Result<Vec<(FieldName, Description)>, OutOfMemory>
     ensures { IfOk result (λ v. map field_of v.items
-        ≡ map (λ m. described_member (type_of key_type) m.0 m.1) (map pair_of pairs.now)) }
+        ≡ map (λ m. described_member (type_of key_type.entry) m.0 m.1) (map pair_of pairs.now)) }
 {
     let mut all = Vec::new(alloc);
     for (label, value) in pairs {

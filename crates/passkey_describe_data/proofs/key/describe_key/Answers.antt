@@ -7,7 +7,7 @@ use Rattle.passkey_cbor.proofs.Items.{members-pairs_of}
 use Rattle.passkey_cose.specs.KeyLabels.{Members}
 use Rattle.passkey_explain.proofs.Describing.{described_of-Record}
 use Rattle.passkey_explain.specs.Described.{Described, Part, parts, parts_from, record_of_members}
-use Rattle.passkey_describe_data.specs.Described.{described_key, described_member, key_type, type_of}
+use Rattle.passkey_describe_data.specs.Described.{described_key, described_member, type_in, type_of}
 use Rattle.passkey_describe_data.proofs.key.describe_key.Goals as goal
 
 pub returns-in_ok-describe_members-in-Map : goal.returns-in_ok-describe_members-in-Map
@@ -17,10 +17,10 @@ returns-in_ok-describe_members-in-Map c =
     let pairs = c.in-Map.pairs.items in
     let members = map pair_of pairs in
     let is = ap item_of c.in-Map.is ∙ item_of-Map c.in-Map.pairs in
-    let typed : type_of c.key_type_of.result ≡ key_type members =
-    c.key_type_of.ensures ∙ ap (λ (ps : List (Value × Value)). key_type (map pair_of ps)) c.deref.ensures.value in
+    let typed : type_of c.key_type_of.result ≡ type_in members =
+    c.key_type_of.ensures ∙ ap (λ (ps : List (Value × Value)). type_in (map pair_of ps)) c.deref.ensures.value in
     described_of-Record c.in_ok-describe_members-in-Map.field-0
     ∙ ap (λ (ps : List Part). parts record_of_members (parts_from ps)) c.in_ok-describe_members-in-Map.ensures
     ∙ ap (λ (ps : List (Value × Value)). described (type_of c.key_type_of.result) (map pair_of ps)) c.deref-in-Map.ensures.value
     ∙ ap (λ (b : Option Item). described b members) typed
-    ∙ sym (ap (λ (ms : Members). described (key_type ms) ms) (members-pairs_of members)) ∙ sym (ap described_key is)
+    ∙ sym (ap (λ (ms : Members). described (type_in ms) ms) (members-pairs_of members)) ∙ sym (ap described_key is)
