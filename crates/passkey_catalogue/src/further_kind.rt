@@ -122,7 +122,7 @@ pub(crate) fn further_source(kind: FurtherKind) -> &'static str
         FurtherKind::BlobsEntry => "CTAP 2.1, section 6.10.3",
         FurtherKind::ConfigRequest => "CTAP 2.1, section 6.11",
         FurtherKind::ConfigMinPinLength => "CTAP 2.1, section 6.11.4",
-        FurtherKind::ConfigVendor => "CTAP 2.1, section 6.11.5",
+        FurtherKind::ConfigVendor => "CTAP 2.1, section 6.11.3",
         FurtherKind::Key => "RFC 9052, section 7",
         FurtherKind::Info23 => "CTAP 2.3, section 6.4",
         FurtherKind::MakeInputs | FurtherKind::MakeUnsigned => "CTAP 2.3, section 6.1",
