@@ -47,8 +47,8 @@ fn put_refused(
 #[test]
 fn a_refused_member_leaves_the_others(rt: HostRuntime) {
     let value = parsed(&rt, r#"{"enabled":{"x":1.5},"results":{"first":"AQ"}}"#);
-    let want =
-        "Ok(AuthenticationExtensionsPrfOutputs { enabled: None, results: Some(AuthenticationExtensionsPrfValues { first: Bytes([1]), second: None }) })";
+    let want = "Ok(AuthenticationExtensionsPrfOutputs { enabled: None, results: Some(\
+         AuthenticationExtensionsPrfValues { first: Bytes([1]), second: None }) })";
     assert_shows(
         &rt,
         "enabled",

@@ -210,7 +210,8 @@ unfolding pub_area_at
 pub_area_front a rest valid =
     let grouped = pub_area_grouped (to_be_bytes w16 (key_type a.key)) (hash_written a.name_alg) (to_be_bytes w32
     a.object_attributes) (size_of a.auth_policy) a.auth_policy (key_written a.key) rest in
-    ap pub_area_at grouped ∙ after _ (u16_back (key_type a.key) _ (type_fits a.key)) ∙ after _ (hash_back a.name_alg _ valid.name_alg)
+    ap pub_area_at grouped ∙ after _ (u16_back (key_type a.key) _ (type_fits a.key))
+    ∙ after _ (hash_back a.name_alg _ valid.name_alg)
     ∙ after _ (u32_back a.object_attributes _ valid.attributes) ∙ after _ (sized_back a.auth_policy _ valid.policy)
     ∙ after _ (key_back a.key rest valid.key)
 

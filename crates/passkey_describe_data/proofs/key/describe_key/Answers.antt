@@ -21,6 +21,7 @@ returns-in_ok-describe_members-in-Map c =
     c.key_type_of.ensures ∙ ap (λ (ps : List (Value × Value)). type_in (map pair_of ps)) c.deref.ensures.value in
     described_of-Record c.in_ok-describe_members-in-Map.field-0
     ∙ ap (λ (ps : List Part). parts record_of_members (parts_from ps)) c.in_ok-describe_members-in-Map.ensures
-    ∙ ap (λ (ps : List (Value × Value)). described (type_of c.key_type_of.result) (map pair_of ps)) c.deref-in-Map.ensures.value
+    ∙ ap (λ (ps : List (Value × Value)). described (type_of c.key_type_of.result) (map pair_of ps))
+    c.deref-in-Map.ensures.value
     ∙ ap (λ (b : Option Item). described b members) typed
     ∙ sym (ap (λ (ms : Members). described (type_in ms) ms) (members-pairs_of members)) ∙ sym (ap described_key is)
