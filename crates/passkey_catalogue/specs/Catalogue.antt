@@ -1,8 +1,8 @@
 -- What an input of each kind is, and the kinds' names and numbers.
 use Rattle.std.specs.Prelude.{ℕ, Bool, List, false, true, Option, Some, None, option_map}
 use Rattle.passkey_attestation.specs.declared.format.AttestationFormat.TheVariants as format
-use Rattle.passkey_bio_enrollment.specs.BioRequest.{bio_request}
-use Rattle.passkey_bio_enrollment.specs.BioResponse.{bio_response}
+use Rattle.passkey_commands.specs.bio_enrollment.BioRequest.{bio_request}
+use Rattle.passkey_commands.specs.bio_enrollment.BioResponse.{bio_response}
 use Rattle.passkey_catalogue.specs.JsonKinds.{further_json_kinds}
 use Rattle.passkey_catalogue.specs.Kinds.{further_kinds}
 use Rattle.passkey_catalogue.specs.Numbers.{value_from}
@@ -14,13 +14,13 @@ use Rattle.passkey_catalogue.specs.declared.further_kind.FurtherKind.TheVariants
 use Rattle.passkey_catalogue.specs.declared.further_kind.FurtherKind.{FurtherKind}
 use Rattle.passkey_catalogue.specs.declared.kind.Kind.TheVariants as kind
 use Rattle.passkey_catalogue.specs.declared.kind.Kind.{Kind}
-use Rattle.passkey_client_pin.specs.PinRequest.{pin_request}
-use Rattle.passkey_client_pin.specs.PinResponse.{pin_response}
-use Rattle.passkey_config.specs.CfgRequest.{cfg_request}
-use Rattle.passkey_config.specs.MinPinLengthParameters.{min_pin_length_parameters}
-use Rattle.passkey_config.specs.VendorParameters.{vendor_parameters}
-use Rattle.passkey_credential_management.specs.CmRequest.{cm_request}
-use Rattle.passkey_credential_management.specs.CmResponse.{cm_response}
+use Rattle.passkey_commands.specs.client_pin.PinRequest.{pin_request}
+use Rattle.passkey_commands.specs.client_pin.PinResponse.{pin_response}
+use Rattle.passkey_commands.specs.config.CfgRequest.{cfg_request}
+use Rattle.passkey_commands.specs.config.MinPinLengthParameters.{min_pin_length_parameters}
+use Rattle.passkey_commands.specs.config.VendorParameters.{vendor_parameters}
+use Rattle.passkey_commands.specs.credential_management.CmRequest.{cm_request}
+use Rattle.passkey_commands.specs.credential_management.CmResponse.{cm_response}
 use Rattle.passkey_further_extensions.specs.GetAssertionInputs.{get_assertion_inputs}
 use Rattle.passkey_further_extensions.specs.GetAssertionOutputs.{get_assertion_outputs}
 use Rattle.passkey_further_extensions.specs.GetAssertionUnsigned.{get_assertion_unsigned}
@@ -30,9 +30,9 @@ use Rattle.passkey_further_extensions.specs.MakeCredentialUnsigned.{make_credent
 use Rattle.passkey_get_info_23.specs.Information.{information}
 use Rattle.passkey_kinds.specs.Numbered.{numbered_fields, table_fields}
 use Rattle.passkey_kinds.specs.Words.{PlainTable, plain_tree}
-use Rattle.passkey_large_blobs.specs.LargeBlob.{large_blob}
-use Rattle.passkey_large_blobs.specs.LbRequest.{lb_request}
-use Rattle.passkey_large_blobs.specs.LbResponse.{lb_response}
+use Rattle.passkey_commands.specs.large_blobs.LargeBlob.{large_blob}
+use Rattle.passkey_commands.specs.large_blobs.LbRequest.{lb_request}
+use Rattle.passkey_commands.specs.large_blobs.LbResponse.{lb_response}
 use Rattle.passkey_run.specs.Kinds.{bytes_definition}
 use Rattle.passkey_run.specs.Definition.{Definition, message, other}
 use Rattle.passkey_run.specs.Kind.{bytes_kinds, json_kinds}

@@ -5,12 +5,12 @@ use crate::form::Form;
 use crate::further_kind::FurtherKind;
 use crate::kind::Kind;
 use passkey_attestation::AttestationFormat;
-use passkey_bio_enrollment as bio;
-use passkey_client_pin as pin;
-use passkey_config as config;
-use passkey_credential_management as credentials;
+use passkey_commands::bio_enrollment as bio;
+use passkey_commands::client_pin as pin;
+use passkey_commands::config as config;
+use passkey_commands::credential_management as credentials;
 use passkey_further_extensions::{get_assertion, make_credential};
-use passkey_large_blobs as blobs;
+use passkey_commands::large_blobs as blobs;
 use passkey_run::{Visitor, visit_bytes};
 
 /// Does it with an input of this kind.

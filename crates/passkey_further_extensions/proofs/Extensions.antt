@@ -1,5 +1,5 @@
 -- Records of extensions: they can be decoded again, have few levels, and their keys ascend.
-use Rattle.passkey_credential_management.specs.CredProtect.{cred_protect_byte, cred_protect_of}
+use Rattle.passkey_commands.specs.credential_management.CredProtect.{cred_protect_byte, cred_protect_of}
 use Rattle.passkey_further_extensions.proofs.Named.{IsNamed, named_law, plain_messages}
 use Rattle.passkey_further_extensions.specs.LargeBlobs.{blob_get_inputs, blob_get_outputs, blob_make_inputs, blob_make_outputs}
 use Rattle.passkey_further_extensions.specs.MakeCredentialInputs.{make_credential_inputs, normal_make_credential_inputs}

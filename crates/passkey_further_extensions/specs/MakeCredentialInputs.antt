@@ -1,6 +1,6 @@
 -- Extension inputs of an authenticatorMakeCredential request: member 0x06 (CTAP 2.3, section 6.1).
 use Rattle.std.specs.Prelude.{[], ◌∷◌, None, codes, option_map}
-use Rattle.passkey_credential_management.specs.CredProtect.{cred_protect_byte, cred_protect_of}
+use Rattle.passkey_commands.specs.credential_management.CredProtect.{cred_protect_byte, cred_protect_of}
 use Rattle.passkey_further_extensions.specs.LargeBlobs.{blob_make_inputs}
 use Rattle.passkey_further_extensions.specs.Prf.{prf_inputs}
 use Rattle.passkey_further_extensions.specs.declared.make_credential.extension_inputs.ExtensionInputs.{ExtensionInputs}

@@ -1,6 +1,6 @@
 -- Extension outputs in the authenticator data of a registration (WebAuthn Level 3, section 6.1).
 use Rattle.std.specs.Prelude.{[], ◌∷◌, None, codes, option_map}
-use Rattle.passkey_credential_management.specs.CredProtect.{cred_protect_byte, cred_protect_of}
+use Rattle.passkey_commands.specs.credential_management.CredProtect.{cred_protect_byte, cred_protect_of}
 use Rattle.passkey_further_extensions.specs.declared.make_credential.signed_outputs.SignedExtensionOutputs.{SignedExtensionOutputs}
 use Rattle.passkey_kinds.specs.Coded.{bytes, list_of, truth}
 use Rattle.passkey_kinds.specs.Numbered.{code}

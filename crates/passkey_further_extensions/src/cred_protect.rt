@@ -1,9 +1,9 @@
 //! Encoding credential protection policies under their names.
 ghost use Rattle.std.specs.Prelude.{◌≡◌, ◌<◌, ◌^◌, OnOk, codes, option_map};
-ghost use Rattle.passkey_credential_management.specs.CredProtect.{cred_protect_byte};
+ghost use Rattle.passkey_commands.specs.credential_management.CredProtect.{cred_protect_byte};
 ghost use Rattle.passkey_kinds.specs.Words.{IfPresent, MemberAccepted, number_tree, put_one, text_string};
 
-use passkey_credential_management::CredProtect;
+use passkey_commands::credential_management::CredProtect;
 use passkey_kinds::{Code, OutOfMemory, Sink};
 use std::alloc::Global;
 

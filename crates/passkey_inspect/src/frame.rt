@@ -4,7 +4,7 @@ ghost use Rattle.passkey_inspect.specs.Prints.{IsMessageIn};
 use crate::kind::InspectKind;
 use crate::status_name::status_name;
 use passkey_catalogue::FurtherKind;
-use passkey_framing::{Command, request_of};
+use passkey_commands::framing::{Command, request_of};
 use passkey_memory::OutOfMemory;
 use passkey_run::BytesKind;
 use std::alloc::Global;

@@ -1,6 +1,6 @@
 //! One exchange with an authenticator.
 ghost use Rattle.std.specs.Prelude.{◌≡◌, ◌∷◌, IfOk};
-ghost use Rattle.passkey_framing.specs.Command.{command_byte};
+ghost use Rattle.passkey_commands.specs.framing.Command.{command_byte};
 
 use passkey_types::OutOfMemory;
 use passkey_types::cose::CoseError;

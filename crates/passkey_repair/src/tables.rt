@@ -2,7 +2,7 @@
 ghost use Rattle.passkey_repair.specs.Tables.{credential_request_edits, credential_response_edits, get_response_edits, make_request_edits, make_response_edits};
 
 use crate::{Change, Deviation, Key, Literal, Repair, Repairable};
-use passkey_credential_management as credential_management;
+use passkey_commands::credential_management as credential_management;
 use passkey_ctap2::{get_assertion as get_assertion, make_credential as make_credential};
 
 static MAKE_REQUEST: [Repair; 7] = [

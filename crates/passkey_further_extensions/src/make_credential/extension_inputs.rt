@@ -5,7 +5,7 @@ ghost use Rattle.passkey_further_extensions.specs.MakeCredentialInputs.{make_cre
 use crate::cred_protect::put_level;
 use crate::{LargeBlobMakeInputs, PrfInputs};
 use passkey_bytes::Bytes;
-use passkey_credential_management::CredProtect;
+use passkey_commands::credential_management::CredProtect;
 use passkey_kinds::{
     Kept, OutOfMemory, Refusal, Row, Sink, Source, TableMessage, TableRecord, set, set_some_code,
 };

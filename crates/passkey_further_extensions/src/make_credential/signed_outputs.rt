@@ -4,7 +4,7 @@ ghost use Rattle.passkey_further_extensions.specs.MakeCredentialOutputs.{make_cr
 
 use crate::cred_protect::put_level;
 use passkey_bytes::{Bytes, List};
-use passkey_credential_management::CredProtect;
+use passkey_commands::credential_management::CredProtect;
 use passkey_kinds::{
     Kept, OutOfMemory, Refusal, Row, Sink, Source, TableMessage, TableRecord, set, set_some_code,
 };

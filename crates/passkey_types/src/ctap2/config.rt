@@ -1,2 +1,2 @@
 //! The request of authenticatorConfig (CTAP 2.1, section 6.11).
-pub use passkey_config::{MinPinLengthParameters, Request, SubCommand, VendorParameters};
+pub use passkey_commands::config::{MinPinLengthParameters, Request, SubCommand, VendorParameters};

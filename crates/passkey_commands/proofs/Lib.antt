@@ -1,0 +1,6 @@
+pub mod ClientPin
+pub mod BioEnrollment
+pub mod CredentialManagement
+pub mod LargeBlobs
+pub mod ConfigLaws
+pub mod Commands
