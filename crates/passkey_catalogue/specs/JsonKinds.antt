@@ -2,10 +2,10 @@
 use Rattle.std.specs.Prelude.{◌≡◌, ℕ, Bool, List, [], ◌∷◌, Some, Result, Ok, Err, codes, refl}
 use Rattle.std.specs.Option.{ok_or}
 use Rattle.passkey_bytes.specs.Map.{ByteMap}
-use Rattle.passkey_further_client.specs.ClientExtensions.{client_extension_inputs, client_extension_outputs}
-use Rattle.passkey_further_client.specs.Mediated.{mediated_options}
-use Rattle.passkey_further_client.specs.PaymentData.{is_payment, payment_in, payment_members}
-use Rattle.passkey_further_client.specs.TopOrigin.{is_top_origin, origin_members}
+use Rattle.passkey_client.specs.ClientExtensions.{client_extension_inputs, client_extension_outputs}
+use Rattle.passkey_client.specs.Mediated.{mediated_options}
+use Rattle.passkey_client.specs.PaymentData.{is_payment, payment_in, payment_members}
+use Rattle.passkey_client.specs.TopOrigin.{is_top_origin, origin_members}
 use Rattle.passkey_json.specs.Coded.{map_value, truth_value}
 use Rattle.passkey_json.specs.Fault.{Fault, no_object, refused}
 use Rattle.passkey_json.specs.Kind.{text}
@@ -16,7 +16,7 @@ use Rattle.passkey_catalogue.specs.contracts.json_kind.FurtherJsonKind.{the_type
 use Rattle.passkey_catalogue.specs.declared.json_kind.FurtherJsonKind.{FurtherJsonKind}
 use Rattle.passkey_catalogue.specs.declared.json_kind.FurtherJsonKind.TheVariants as kind
 use Rattle.passkey_run.specs.RewritesJson.{client_data_rewritten, table_rewritten}
-use Rattle.passkey_signals.specs.Signals.{all_accepted_credentials, current_user_details, unknown_credential}
+use Rattle.passkey_client.specs.Signals.{all_accepted_credentials, current_user_details, unknown_credential}
 use Rattle.passkey_webauthn.specs.Names.{Names, own_name, value_in}
 use Rattle.serde_json.specs.Data.{Data, object}
 use Rattle.serde_json.specs.Written.{compact_text}

@@ -6,14 +6,14 @@ ghost use Rattle.passkey_run.specs.RewritesJson.{IsJsonRefusal, RewritesJson};
 ghost use Rattle.serde_json.specs.View.{view};
 
 use crate::json_kind::FurtherJsonKind;
-use passkey_further_client::{
+use passkey_client::{
     ClientCapabilities, ClientExtensionInputs, ClientExtensionOutputs, MediatedOptions,
     PaymentData, TopOrigin,
 };
 use passkey_json::{BytesForm, FromJson, JsonFault, JsonRefusal, ToJson};
 use passkey_options::{PublicKeyCredentialCreationOptions, PublicKeyCredentialRequestOptions};
 use passkey_run::{RunFault, parse_json, rewrite_client_data, rewrite_record};
-use passkey_signals::{
+use passkey_client::{
     AllAcceptedCredentialsOptions, CurrentUserDetailsOptions, UnknownCredentialOptions,
 };
 use serde_json::Value;

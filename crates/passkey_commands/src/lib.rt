@@ -1,4 +1,4 @@
-//! TODO
+//! CTAP2's other commands, and how requests and responses are framed (CTAP 2.1, sections 6 and 8).
 #![tactic(auto)]
 
 pub mod bio_enrollment;

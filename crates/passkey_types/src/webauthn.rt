@@ -9,7 +9,7 @@ pub use passkey_credentials::{
     AuthenticatorAttestationResponse, AuthenticatorResponse, CreatedPublicKeyCredential,
     PublicKeyCredential,
 };
-pub use passkey_further_client as further;
+pub use passkey_client as further;
 pub use passkey_json::{
     AuthenticationExtensionsClientInputs, AuthenticationExtensionsClientOutputs,
     AuthenticationExtensionsPrfInputs, AuthenticatorAttachment, AuthenticatorSelectionCriteria,
@@ -23,7 +23,7 @@ pub use passkey_options::{
     PublicKeyCredentialRequestOptions,
 };
 pub use passkey_repair_json as repair;
-pub use passkey_signals as signals;
+pub use passkey_client as signals;
 pub use passkey_webauthn::{
     AuthenticationExtensionsPrfOutputs, AuthenticationExtensionsPrfValues, AuthenticatorTransport,
     EnumNames, PublicKeyCredentialDescriptor, PublicKeyCredentialParameters,

@@ -1,5 +1,5 @@
 //! The origin of the top-level page, a further member of client data.
-ghost use Rattle.passkey_further_client.specs.TopOrigin.{is_top_origin, origin_members, origin_members_are_extra};
+ghost use Rattle.passkey_client.specs.TopOrigin.{is_top_origin, origin_members, origin_members_are_extra};
 
 use passkey_bytes::Text;
 use passkey_client_data::ClientDataExtra;

@@ -1,7 +1,7 @@
 -- The options of a ceremony with how far the client may ask the user (WebAuthn Level 3, section 5.1.4).
 use Rattle.std.specs.Prelude.{[], ◌∷◌, None, codes, refl}
-use Rattle.passkey_further_client.specs.Names.{mediation_value}
-use Rattle.passkey_further_client.specs.declared.mediated.MediatedOptions.{MediatedOptions}
+use Rattle.passkey_client.specs.Names.{mediation_value}
+use Rattle.passkey_client.specs.declared.mediated.MediatedOptions.{MediatedOptions}
 use Rattle.passkey_json.specs.Coded.{text_value}
 use Rattle.passkey_json.specs.Table.{PlainTable, nested, optional_as, required_as}
 

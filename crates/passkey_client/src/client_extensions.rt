@@ -1,5 +1,5 @@
 //! Inputs and outputs of client extensions.
-ghost use Rattle.passkey_further_client.specs.ClientExtensions.{client_extension_inputs, client_extension_outputs};
+ghost use Rattle.passkey_client.specs.ClientExtensions.{client_extension_inputs, client_extension_outputs};
 
 use crate::{
     CredentialProtectionPolicy, HmacGetSecretInputs, HmacGetSecretOutputs, LargeBlobInputs,

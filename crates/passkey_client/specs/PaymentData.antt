@@ -5,11 +5,11 @@ use Rattle.passkey_client_data.specs.ClientDataType.{client_data_type_value}
 use Rattle.passkey_client_data.specs.ExtraData.{are_extra}
 use Rattle.passkey_client_data.specs.declared.client_data_type.ClientDataType.{ClientDataType}
 use Rattle.passkey_client_data.specs.declared.client_data_type.ClientDataType.TheVariants as type
-use Rattle.passkey_further_client.specs.Payment.{currency_amount, payment_entity_logo, payment_instrument}
-use Rattle.passkey_further_client.specs.declared.payment_data.AdditionalPaymentData.{AdditionalPaymentData}
-use Rattle.passkey_further_client.specs.declared.payment_data.PaymentData.{PaymentData}
-use Rattle.passkey_further_client.specs.declared.payment_data.PaymentData.TheVariants as payment
-use Rattle.passkey_further_client.specs.declared.payment_data.RegistrationPaymentData.{RegistrationPaymentData}
+use Rattle.passkey_client.specs.Payment.{currency_amount, payment_entity_logo, payment_instrument}
+use Rattle.passkey_client.specs.declared.payment_data.AdditionalPaymentData.{AdditionalPaymentData}
+use Rattle.passkey_client.specs.declared.payment_data.PaymentData.{PaymentData}
+use Rattle.passkey_client.specs.declared.payment_data.PaymentData.TheVariants as payment
+use Rattle.passkey_client.specs.declared.payment_data.RegistrationPaymentData.{RegistrationPaymentData}
 use Rattle.passkey_json.specs.Coded.{bytes_value, list_value, text_value}
 use Rattle.passkey_json.specs.Fault.{Fault}
 use Rattle.passkey_json.specs.Members.{◌>>=◌, Object, if_present, member, takes_at}

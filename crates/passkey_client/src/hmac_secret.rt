@@ -1,5 +1,5 @@
 //! Inputs and outputs of the client extension hmacGetSecret.
-ghost use Rattle.passkey_further_client.specs.ClientExtensions.{hmac_get_secret_inputs, hmac_get_secret_outputs};
+ghost use Rattle.passkey_client.specs.ClientExtensions.{hmac_get_secret_inputs, hmac_get_secret_outputs};
 
 use passkey_bytes::Bytes;
 use passkey_json::{EncodeResult, JsonEncoder, JsonFault, Member, PlainJsonRecord, Row};

@@ -1,5 +1,5 @@
 //! Inputs and outputs of the client extension largeBlob.
-ghost use Rattle.passkey_further_client.specs.ClientExtensions.{large_blob_inputs, large_blob_outputs};
+ghost use Rattle.passkey_client.specs.ClientExtensions.{large_blob_inputs, large_blob_outputs};
 
 use passkey_bytes::{Bytes, Text};
 use passkey_json::{EncodeResult, JsonEncoder, JsonFault, Member, PlainJsonRecord, Row};

@@ -1,11 +1,11 @@
 -- Inputs and outputs of the client extension payment, over JSON (W3C Secure Payment Confirmation).
 use Rattle.std.specs.Prelude.{true, [], ◌∷◌, None, codes, refl}
-use Rattle.passkey_further_client.specs.declared.payment.BrowserBoundSignature.{BrowserBoundSignature}
-use Rattle.passkey_further_client.specs.declared.payment.PaymentCredentialInstrument.{PaymentCredentialInstrument}
-use Rattle.passkey_further_client.specs.declared.payment.PaymentCurrencyAmount.{PaymentCurrencyAmount}
-use Rattle.passkey_further_client.specs.declared.payment.PaymentEntityLogo.{PaymentEntityLogo}
-use Rattle.passkey_further_client.specs.declared.payment.PaymentInputs.{PaymentInputs}
-use Rattle.passkey_further_client.specs.declared.payment.PaymentOutputs.{PaymentOutputs}
+use Rattle.passkey_client.specs.declared.payment.BrowserBoundSignature.{BrowserBoundSignature}
+use Rattle.passkey_client.specs.declared.payment.PaymentCredentialInstrument.{PaymentCredentialInstrument}
+use Rattle.passkey_client.specs.declared.payment.PaymentCurrencyAmount.{PaymentCurrencyAmount}
+use Rattle.passkey_client.specs.declared.payment.PaymentEntityLogo.{PaymentEntityLogo}
+use Rattle.passkey_client.specs.declared.payment.PaymentInputs.{PaymentInputs}
+use Rattle.passkey_client.specs.declared.payment.PaymentOutputs.{PaymentOutputs}
 use Rattle.passkey_json.specs.Coded.{bytes_value, list_value, text_value, truth_value}
 use Rattle.passkey_json.specs.Table.{PlainTable, nested, accepted_as, default_as, optional_as, required_as}
 use Rattle.passkey_json.specs.WebAuthn.{parameters}

@@ -1,13 +1,13 @@
 -- Inputs and outputs of client extensions, over JSON.
 use Rattle.std.specs.Prelude.{[], ◌∷◌, None, codes, refl}
-use Rattle.passkey_further_client.specs.declared.client_extensions.ClientExtensionInputs.{ClientExtensionInputs}
-use Rattle.passkey_further_client.specs.declared.client_extensions.ClientExtensionOutputs.{ClientExtensionOutputs}
-use Rattle.passkey_further_client.specs.declared.hmac_secret.HmacGetSecretInputs.{HmacGetSecretInputs}
-use Rattle.passkey_further_client.specs.declared.hmac_secret.HmacGetSecretOutputs.{HmacGetSecretOutputs}
-use Rattle.passkey_further_client.specs.declared.large_blob.LargeBlobInputs.{LargeBlobInputs}
-use Rattle.passkey_further_client.specs.declared.large_blob.LargeBlobOutputs.{LargeBlobOutputs}
-use Rattle.passkey_further_client.specs.Names.{policy_value}
-use Rattle.passkey_further_client.specs.Payment.{payment_inputs, payment_outputs}
+use Rattle.passkey_client.specs.declared.client_extensions.ClientExtensionInputs.{ClientExtensionInputs}
+use Rattle.passkey_client.specs.declared.client_extensions.ClientExtensionOutputs.{ClientExtensionOutputs}
+use Rattle.passkey_client.specs.declared.hmac_secret.HmacGetSecretInputs.{HmacGetSecretInputs}
+use Rattle.passkey_client.specs.declared.hmac_secret.HmacGetSecretOutputs.{HmacGetSecretOutputs}
+use Rattle.passkey_client.specs.declared.large_blob.LargeBlobInputs.{LargeBlobInputs}
+use Rattle.passkey_client.specs.declared.large_blob.LargeBlobOutputs.{LargeBlobOutputs}
+use Rattle.passkey_client.specs.Names.{policy_value}
+use Rattle.passkey_client.specs.Payment.{payment_inputs, payment_outputs}
 use Rattle.passkey_json.specs.Coded.{bytes_value, list_value, text_value, truth_value, word_value}
 use Rattle.passkey_json.specs.Extensions.{credential_properties, prf_inputs}
 use Rattle.passkey_json.specs.Table.{PlainTable, nested, optional_as, or_as, required_as}

@@ -1,6 +1,6 @@
-//! What WebAuthn Level 3 has over JSON beside the ceremonies' options and responses: client
-//! extensions, mediation, client capabilities, and the origin of the top-level page; and payments
-//! (W3C Secure Payment Confirmation).
+//! What a page, a browser and a relying party say of credentials over JSON beside the ceremonies'
+//! options and responses (WebAuthn Level 3): signals, client extensions, mediation, client
+//! capabilities, the origin of the top-level page, and payments (W3C Secure Payment Confirmation).
 #![tactic(auto)]
 
 mod client_extensions;
@@ -10,6 +10,7 @@ mod mediated;
 mod names;
 mod payment;
 mod payment_data;
+mod signals;
 mod top_origin;
 
 pub use client_extensions::{ClientExtensionInputs, ClientExtensionOutputs};
@@ -23,6 +24,9 @@ pub use payment::{
     PaymentInputs, PaymentOutputs,
 };
 pub use payment_data::{AdditionalPaymentData, PaymentData, RegistrationPaymentData};
+pub use signals::{
+    AllAcceptedCredentialsOptions, CurrentUserDetailsOptions, UnknownCredentialOptions,
+};
 pub use top_origin::TopOrigin;
 
 /// The result of `PublicKeyCredential.getClientCapabilities()` (WebAuthn Level 3, section 5.1.7): whether

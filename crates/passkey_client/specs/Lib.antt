@@ -1,3 +1,4 @@
+pub mod Signals
 pub mod Names
 pub mod Payment
 pub mod PaymentData

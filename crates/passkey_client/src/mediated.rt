@@ -1,5 +1,5 @@
 //! The options of a ceremony with how far the client may ask the user.
-ghost use Rattle.passkey_further_client.specs.Mediated.{mediated_options};
+ghost use Rattle.passkey_client.specs.Mediated.{mediated_options};
 
 use crate::CredentialMediationRequirement;
 use passkey_bytes::Text;

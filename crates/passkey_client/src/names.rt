@@ -1,6 +1,6 @@
 //! Names of credential protection policies and of mediation.
 ghost use Rattle.std.specs.Prelude.{Some};
-ghost use Rattle.passkey_further_client.specs.Names.{mediation_name, mediation_own, mediation_value, mediations, policies, policy_name, policy_own, policy_value};
+ghost use Rattle.passkey_client.specs.Names.{mediation_name, mediation_own, mediation_value, mediations, policies, policy_name, policy_own, policy_value};
 
 use passkey_json::{BytesForm, FromJson, JsonRefusal, ToJson, read_name, written_name};
 use passkey_memory::OutOfMemory;

@@ -1,11 +1,11 @@
 -- Names of credential protection policies and of mediation.
 use Rattle.std.specs.Prelude.{◌≡◌, ℕ, List, [], ◌∷◌, Some, codes, refl}
-use Rattle.passkey_further_client.specs.contracts.names.CredentialMediationRequirement.{the_type as mediation_type}
-use Rattle.passkey_further_client.specs.contracts.names.CredentialProtectionPolicy.{the_type as policy_type}
-use Rattle.passkey_further_client.specs.declared.names.CredentialMediationRequirement.{CredentialMediationRequirement}
-use Rattle.passkey_further_client.specs.declared.names.CredentialMediationRequirement.TheVariants as mediation
-use Rattle.passkey_further_client.specs.declared.names.CredentialProtectionPolicy.{CredentialProtectionPolicy}
-use Rattle.passkey_further_client.specs.declared.names.CredentialProtectionPolicy.TheVariants as policy
+use Rattle.passkey_client.specs.contracts.names.CredentialMediationRequirement.{the_type as mediation_type}
+use Rattle.passkey_client.specs.contracts.names.CredentialProtectionPolicy.{the_type as policy_type}
+use Rattle.passkey_client.specs.declared.names.CredentialMediationRequirement.{CredentialMediationRequirement}
+use Rattle.passkey_client.specs.declared.names.CredentialMediationRequirement.TheVariants as mediation
+use Rattle.passkey_client.specs.declared.names.CredentialProtectionPolicy.{CredentialProtectionPolicy}
+use Rattle.passkey_client.specs.declared.names.CredentialProtectionPolicy.TheVariants as policy
 use Rattle.passkey_json.specs.Coded.{Coded, named_value}
 use Rattle.passkey_webauthn.specs.Names.{Names, own_name, value_in}
 

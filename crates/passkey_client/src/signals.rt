@@ -1,5 +1,5 @@
 //! The arguments of the signals, decoded from JSON objects and encoded.
-ghost use Rattle.passkey_signals.specs.Signals.{all_accepted_credentials, current_user_details, unknown_credential};
+ghost use Rattle.passkey_client.specs.Signals.{all_accepted_credentials, current_user_details, unknown_credential};
 
 use passkey_bytes::{Bytes, List, Text};
 use passkey_json::{EncodeResult, JsonEncoder, JsonFault, Member, PlainJsonRecord, Row};

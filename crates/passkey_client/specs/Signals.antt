@@ -2,9 +2,9 @@
 use Rattle.std.specs.Prelude.{[], ◌∷◌, codes, refl}
 use Rattle.passkey_json.specs.Coded.{bytes_value, list_value, text_value}
 use Rattle.passkey_json.specs.Table.{PlainTable, required_as}
-use Rattle.passkey_signals.specs.declared.signals.AllAcceptedCredentialsOptions.{AllAcceptedCredentialsOptions}
-use Rattle.passkey_signals.specs.declared.signals.CurrentUserDetailsOptions.{CurrentUserDetailsOptions}
-use Rattle.passkey_signals.specs.declared.signals.UnknownCredentialOptions.{UnknownCredentialOptions}
+use Rattle.passkey_client.specs.declared.signals.AllAcceptedCredentialsOptions.{AllAcceptedCredentialsOptions}
+use Rattle.passkey_client.specs.declared.signals.CurrentUserDetailsOptions.{CurrentUserDetailsOptions}
+use Rattle.passkey_client.specs.declared.signals.UnknownCredentialOptions.{UnknownCredentialOptions}
 
 -- section 5.1.10.2
 abbrev pub unknown_credential : PlainTable UnknownCredentialOptions
