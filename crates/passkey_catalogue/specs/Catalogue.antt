@@ -21,13 +21,13 @@ use Rattle.passkey_commands.specs.config.MinPinLengthParameters.{min_pin_length_
 use Rattle.passkey_commands.specs.config.VendorParameters.{vendor_parameters}
 use Rattle.passkey_commands.specs.credential_management.CmRequest.{cm_request}
 use Rattle.passkey_commands.specs.credential_management.CmResponse.{cm_response}
-use Rattle.passkey_further_extensions.specs.GetAssertionInputs.{get_assertion_inputs}
-use Rattle.passkey_further_extensions.specs.GetAssertionOutputs.{get_assertion_outputs}
-use Rattle.passkey_further_extensions.specs.GetAssertionUnsigned.{get_assertion_unsigned}
-use Rattle.passkey_further_extensions.specs.MakeCredentialInputs.{make_credential_inputs}
-use Rattle.passkey_further_extensions.specs.MakeCredentialOutputs.{make_credential_outputs}
-use Rattle.passkey_further_extensions.specs.MakeCredentialUnsigned.{make_credential_unsigned}
-use Rattle.passkey_get_info_23.specs.Information.{information}
+use Rattle.passkey_registered.specs.extensions.GetAssertionInputs.{get_assertion_inputs}
+use Rattle.passkey_registered.specs.extensions.GetAssertionOutputs.{get_assertion_outputs}
+use Rattle.passkey_registered.specs.extensions.GetAssertionUnsigned.{get_assertion_unsigned}
+use Rattle.passkey_registered.specs.extensions.MakeCredentialInputs.{make_credential_inputs}
+use Rattle.passkey_registered.specs.extensions.MakeCredentialOutputs.{make_credential_outputs}
+use Rattle.passkey_registered.specs.extensions.MakeCredentialUnsigned.{make_credential_unsigned}
+use Rattle.passkey_registered.specs.get_info.Information.{information}
 use Rattle.passkey_kinds.specs.Numbered.{numbered_fields, table_fields}
 use Rattle.passkey_kinds.specs.Words.{PlainTable, plain_tree}
 use Rattle.passkey_commands.specs.large_blobs.LargeBlob.{large_blob}

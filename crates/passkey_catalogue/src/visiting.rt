@@ -9,7 +9,7 @@ use passkey_commands::bio_enrollment as bio;
 use passkey_commands::client_pin as pin;
 use passkey_commands::config as config;
 use passkey_commands::credential_management as credentials;
-use passkey_further_extensions::{get_assertion, make_credential};
+use passkey_registered::extensions::{get_assertion, make_credential};
 use passkey_commands::large_blobs as blobs;
 use passkey_run::{Visitor, visit_bytes};
 
@@ -44,7 +44,7 @@ fn visit_further<V: Visitor<Other = Form>>(kind: FurtherKind, visitor: V) -> V::
         }
         FurtherKind::ConfigVendor => visitor.visit_message::<config::VendorParameters>(),
         FurtherKind::Key => visitor.visit_other(Form::Key),
-        FurtherKind::Info23 => visitor.visit_message::<passkey_get_info_23::Response>(),
+        FurtherKind::Info23 => visitor.visit_message::<passkey_registered::get_info::Response>(),
         FurtherKind::MakeInputs => visitor.visit_message::<make_credential::ExtensionInputs>(),
         FurtherKind::MakeOutputs => {
             visitor.visit_message::<make_credential::SignedExtensionOutputs>()

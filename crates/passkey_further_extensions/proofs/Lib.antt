@@ -1,4 +1,0 @@
-pub mod Named
-pub mod Extensions
-pub mod Places
-pub mod Ascending

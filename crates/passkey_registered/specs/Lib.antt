@@ -1,0 +1,2 @@
+pub mod get_info
+pub mod extensions
