@@ -2,11 +2,11 @@
 use crate::again_bytes::Copied;
 use crate::tries::{Part, Tries};
 use passkey_types::OutOfMemory;
-use passkey_types::ctap2::further_extensions::{
+use passkey_types::ctap2::registered::extensions::{
     PrfValue, get_assertion as used, make_credential as made,
 };
 use passkey_types::ctap2::{
-    Kept, bio_enrollment, client_pin, config, credential_management, get_info_23, large_blobs,
+    Kept, bio_enrollment, client_pin, config, credential_management, large_blobs, registered,
 };
 use std::alloc::Global;
 
@@ -94,7 +94,7 @@ impl Copied for config::VendorParameters {
     }
 }
 
-impl Copied for get_info_23::Response {
+impl Copied for registered::get_info::Response {
     fn replace_parts(&mut self, alloc: Global, tries: &mut Tries) -> Result<(), OutOfMemory> {
         tries.replace_some(alloc, &mut self.certifications)
     }

@@ -5,7 +5,7 @@ use crate::setting::first_word;
 use crate::tries::Tries;
 use passkey_run::RunFault;
 use passkey_types::cbor::Value;
-use passkey_types::ctap2::further_extensions::{
+use passkey_types::ctap2::registered::extensions::{
     TableRecord, extensions_of, get_assertion as used, make_credential as made, others_of,
     with_others, with_row,
 };

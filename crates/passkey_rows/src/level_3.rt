@@ -3,7 +3,7 @@ use crate::again_json::{client_data_copied, encoding, parsed};
 use passkey_catalogue::{FurtherJsonKind, rewrite_further_json};
 use passkey_run::RunFault;
 use passkey_types::json::{FromJson, JsonRefusal};
-use passkey_types::webauthn::further::{ClientCapabilities, PaymentData, TopOrigin};
+use passkey_types::webauthn::client::{ClientCapabilities, PaymentData, TopOrigin};
 use passkey_types::webauthn::{BytesForm, EnumNames};
 use std::alloc::Global;
 

@@ -9,10 +9,10 @@ use crate::tries::Tries;
 use passkey_catalogue::{FurtherKind, Kind};
 use passkey_run::{BytesKind, RunFault};
 use passkey_types::ctap2::extensions::HmacGetSecretInput;
-use passkey_types::ctap2::further_extensions::{get_assertion as used, make_credential as made};
+use passkey_types::ctap2::registered::extensions::{get_assertion as used, make_credential as made};
 use passkey_types::ctap2::{
     Message, ToCbor, bio_enrollment, client_pin, config, credential_management, get_assertion,
-    get_info, get_info_23, large_blobs, make_credential,
+    get_info, large_blobs, make_credential, registered,
 };
 use std::alloc::Global;
 
@@ -93,7 +93,7 @@ fn other_in_parts(
             alloc, tries, by, bytes,
         ),
         FurtherKind::ConfigVendor => in_parts::<config::VendorParameters>(alloc, tries, by, bytes),
-        FurtherKind::Info23 => in_parts::<get_info_23::Response>(alloc, tries, by, bytes),
+        FurtherKind::Info23 => in_parts::<registered::get_info::Response>(alloc, tries, by, bytes),
         FurtherKind::MakeInputs => in_parts::<made::ExtensionInputs>(alloc, tries, by, bytes),
         FurtherKind::MakeOutputs => in_parts::<made::SignedExtensionOutputs>(
             alloc, tries, by, bytes,

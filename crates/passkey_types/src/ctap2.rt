@@ -19,10 +19,9 @@ pub use passkey_core::{
     UnknownSpecError, VendorError,
 };
 pub use passkey_cose::{CoseError, CoseKeyConversionError, RefusedKey};
-pub use passkey_registered::extensions as further_extensions;
-pub use passkey_registered::get_info as get_info_23;
 pub use passkey_kinds::{
     Code, Fault, Form, FromCbor, Kept, Look, Message, Refusal, ToCbor, TolerantList, Tolerated,
     Wanted, WriteFault,
 };
+pub use passkey_registered as registered;
 pub use passkey_repair as repair;

@@ -1,6 +1,9 @@
 //! What a relying party and a browser exchange (WebAuthn Level 3), decoded from JSON values and
 //! encoded.
+pub mod signals;
+
 pub use indexmap::IndexMap;
+pub use passkey_client as client;
 pub use passkey_client_data::{
     ClientDataExtra, ClientDataFault, ClientDataType, CollectedClientData,
 };
@@ -9,7 +12,6 @@ pub use passkey_credentials::{
     AuthenticatorAttestationResponse, AuthenticatorResponse, CreatedPublicKeyCredential,
     PublicKeyCredential,
 };
-pub use passkey_client as further;
 pub use passkey_json::{
     AuthenticationExtensionsClientInputs, AuthenticationExtensionsClientOutputs,
     AuthenticationExtensionsPrfInputs, AuthenticatorAttachment, AuthenticatorSelectionCriteria,
@@ -23,7 +25,6 @@ pub use passkey_options::{
     PublicKeyCredentialRequestOptions,
 };
 pub use passkey_repair_json as repair;
-pub use passkey_client as signals;
 pub use passkey_webauthn::{
     AuthenticationExtensionsPrfOutputs, AuthenticationExtensionsPrfValues, AuthenticatorTransport,
     EnumNames, PublicKeyCredentialDescriptor, PublicKeyCredentialParameters,
