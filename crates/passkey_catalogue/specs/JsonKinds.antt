@@ -11,7 +11,7 @@ use Rattle.passkey_json.specs.Fault.{Fault, no_object, refused}
 use Rattle.passkey_json.specs.Kind.{text}
 use Rattle.passkey_json.specs.Members.{◌>>=◌, if_present, member}
 use Rattle.passkey_json.specs.declared.bytes_form.BytesForm.TheVariants.{Base64Url}
-use Rattle.passkey_options.specs.Options.{creation_options, request_options}
+use Rattle.passkey_webauthn_json.specs.options.Options.{creation_options, request_options}
 use Rattle.passkey_catalogue.specs.contracts.json_kind.FurtherJsonKind.{the_type}
 use Rattle.passkey_catalogue.specs.declared.json_kind.FurtherJsonKind.{FurtherJsonKind}
 use Rattle.passkey_catalogue.specs.declared.json_kind.FurtherJsonKind.TheVariants as kind

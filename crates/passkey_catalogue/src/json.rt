@@ -11,7 +11,7 @@ use passkey_client::{
     PaymentData, TopOrigin,
 };
 use passkey_json::{BytesForm, FromJson, JsonFault, JsonRefusal, ToJson};
-use passkey_options::{PublicKeyCredentialCreationOptions, PublicKeyCredentialRequestOptions};
+use passkey_webauthn_json::options::{PublicKeyCredentialCreationOptions, PublicKeyCredentialRequestOptions};
 use passkey_run::{RunFault, parse_json, rewrite_client_data, rewrite_record};
 use passkey_client::{
     AllAcceptedCredentialsOptions, CurrentUserDetailsOptions, UnknownCredentialOptions,

@@ -1,10 +1,10 @@
 -- The payment that the user confirmed, a further member of client data (W3C Secure Payment Confirmation).
 use Rattle.std.specs.Prelude.{◌≡◌, ℕ, Bool, true, false, if◌then◌else◌, List, [], ◌∷◌, Option, Some, None, Result, Ok, codes, option_and_then, refl}
 use Rattle.std.specs.Str.{bytes_eq}
-use Rattle.passkey_client_data.specs.ClientDataType.{client_data_type_value}
-use Rattle.passkey_client_data.specs.ExtraData.{are_extra}
-use Rattle.passkey_client_data.specs.declared.client_data_type.ClientDataType.{ClientDataType}
-use Rattle.passkey_client_data.specs.declared.client_data_type.ClientDataType.TheVariants as type
+use Rattle.passkey_webauthn_json.specs.client_data.ClientDataType.{client_data_type_value}
+use Rattle.passkey_webauthn_json.specs.client_data.ExtraData.{are_extra}
+use Rattle.passkey_webauthn_json.specs.declared.client_data.client_data_type.ClientDataType.{ClientDataType}
+use Rattle.passkey_webauthn_json.specs.declared.client_data.client_data_type.ClientDataType.TheVariants as type
 use Rattle.passkey_client.specs.Payment.{currency_amount, payment_entity_logo, payment_instrument}
 use Rattle.passkey_client.specs.declared.payment_data.AdditionalPaymentData.{AdditionalPaymentData}
 use Rattle.passkey_client.specs.declared.payment_data.PaymentData.{PaymentData}

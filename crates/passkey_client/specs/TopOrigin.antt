@@ -1,7 +1,7 @@
 -- The origin of the top-level page, a further member of client data (WebAuthn Level 3, section 5.8.1).
 use Rattle.std.specs.Prelude.{◌≡◌, ℕ, Bool, true, List, Option, Some, None, codes, refl}
 use Rattle.std.specs.Str.{bytes_eq}
-use Rattle.passkey_client_data.specs.ExtraData.{are_extra}
+use Rattle.passkey_webauthn_json.specs.client_data.ExtraData.{are_extra}
 use Rattle.serde_json.specs.Data.{Members, no_members, member, string}
 
 abbrev pub is_top_origin : List ℕ → Bool

@@ -6,7 +6,7 @@ use crate::payment::{
     PaymentCredentialInstrument, PaymentCurrencyAmount, PaymentEntityLogo, copy_of,
 };
 use passkey_bytes::{Bytes, List, Text};
-use passkey_client_data::{ClientDataExtra, ClientDataType};
+use passkey_webauthn_json::client_data::{ClientDataExtra, ClientDataType};
 use passkey_json::{
     BytesForm, EncodeResult, JsonEncoder, JsonFault, Member, Object, PlainJsonRecord, Row, ToJson,
 };

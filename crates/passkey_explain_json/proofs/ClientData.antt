@@ -8,10 +8,10 @@ use Rattle.std.specs.Option.{option_and_then}
 use Rattle.std.proofs.lemmas.Map.Lookups.{exact_bytes}
 use Rattle.std.specs.declared.cmp.Ordering.{Ordering}
 use Rattle.std.specs.declared.cmp.Ordering.TheVariants.{Less, Equal, Greater}
-use Rattle.passkey_client_data.specs.ClientData.{ClientData, client_data_in, fixed_members}
-use Rattle.passkey_client_data.specs.ExtraData.{is_fixed, is_unknown}
-use Rattle.passkey_client_data.specs.MemberLists.{members_where}
-use Rattle.passkey_client_data.specs.declared.client_data.FixedMembers.{FixedMembers}
+use Rattle.passkey_webauthn_json.specs.client_data.ClientData.{ClientData, client_data_in, fixed_members}
+use Rattle.passkey_webauthn_json.specs.client_data.ExtraData.{is_fixed, is_unknown}
+use Rattle.passkey_webauthn_json.specs.client_data.MemberLists.{members_where}
+use Rattle.passkey_webauthn_json.specs.declared.client_data.client_data.FixedMembers.{FixedMembers}
 use Rattle.passkey_json.specs.Fault.{Fault, Gives, no_object, float}
 use Rattle.passkey_json.specs.Members.{in_object, record_kind}
 use Rattle.passkey_json.specs.Table.{members_in}

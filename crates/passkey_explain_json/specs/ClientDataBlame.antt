@@ -1,7 +1,7 @@
 -- What is to blame in a JSON value from which no client data is decoded (WebAuthn Level 3, section 5.8.1).
 use Rattle.std.specs.Prelude.{◌≡◌, ◌&&◌, ℕ, Bool, true, false, not, if◌then◌else◌, List, Option, Some, None, Result, Ok, Err, is_ok}
-use Rattle.passkey_client_data.specs.ClientData.{ClientData, client_data, fixed_members}
-use Rattle.passkey_client_data.specs.ExtraData.{is_fixed}
+use Rattle.passkey_webauthn_json.specs.client_data.ClientData.{ClientData, client_data, fixed_members}
+use Rattle.passkey_webauthn_json.specs.client_data.ExtraData.{is_fixed}
 use Rattle.passkey_json.specs.Fault.{Fault, Gives}
 use Rattle.passkey_json.specs.Members.{Object, in_object}
 use Rattle.passkey_json.specs.Table.{members_in}

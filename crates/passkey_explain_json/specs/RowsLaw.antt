@@ -1,8 +1,8 @@
 -- What each record blames is to blame.
 use Rattle.std.specs.Prelude.{None, false, refl}
-use Rattle.passkey_client_data.specs.ClientData.{fixed_members}
-use Rattle.passkey_client_data.specs.ClientDataType.{client_data_type_value}
-use Rattle.passkey_credentials.specs.Credentials.{attestation_response, assertion_response, credential}
+use Rattle.passkey_webauthn_json.specs.client_data.ClientData.{fixed_members}
+use Rattle.passkey_webauthn_json.specs.client_data.ClientDataType.{client_data_type_value}
+use Rattle.passkey_webauthn_json.specs.credentials.Credentials.{attestation_response, assertion_response, credential}
 use Rattle.passkey_json.specs.Coded.{algorithm_value, credential_type_value, transport_value, truth_text_value, whole_value}
 use Rattle.passkey_json.specs.Extensions.{client_inputs, prf_inputs, client_outputs, credential_properties, no_outputs}
 use Rattle.passkey_json.specs.Kind.{accepted, bytes, list, optional, text, truth, word}
@@ -12,9 +12,9 @@ use Rattle.passkey_json.specs.SelectionCriteria.{selection_criteria}
 use Rattle.passkey_json.specs.Table.{PlainTable}
 use Rattle.passkey_json.specs.WebAuthn.{descriptor, parameters, rp, user, prf_values, prf_outputs}
 use Rattle.passkey_json.specs.declared.requirements.UserVerificationRequirement.TheVariants.{Preferred}
-use Rattle.passkey_options.specs.Options.{creation_options, request_options, credential_options}
-use Rattle.passkey_options.specs.Preferences.{conveyance_value, format_value, hint_value}
-use Rattle.passkey_options.specs.declared.preferences.AttestationConveyancePreference.TheVariants.{None as NoAttestation}
+use Rattle.passkey_webauthn_json.specs.options.Options.{creation_options, request_options, credential_options}
+use Rattle.passkey_webauthn_json.specs.options.Preferences.{conveyance_value, format_value, hint_value}
+use Rattle.passkey_webauthn_json.specs.declared.options.preferences.AttestationConveyancePreference.TheVariants.{None as NoAttestation}
 use Rattle.passkey_webauthn.specs.declared.credential_type.PublicKeyCredentialType.TheVariants.{Unknown}
 use Rattle.passkey_explain_json.specs.Blaming.{Rows}
 use Rattle.passkey_explain_json.specs.Law.{leaf_holds, list_holds, map_holds}

@@ -5,7 +5,7 @@ ghost use Rattle.passkey_explain_json.specs.RowsLaw.{attestation_hold, assertion
 use crate::blame::JsonBlame;
 use crate::blames::{Blames, BlamesRows};
 use passkey_bytes::{Bytes, List, Text};
-use passkey_credentials::{
+use passkey_webauthn_json::credentials::{
     AuthenticatorAssertionResponse, AuthenticatorAttestationResponse, AuthenticatorResponse,
     PublicKeyCredential,
 };

@@ -9,7 +9,7 @@ use passkey_json::{
     AuthenticationExtensionsClientInputs, AuthenticatorSelectionCriteria, TolerantList,
 };
 use passkey_memory::OutOfMemory;
-use passkey_options::{
+use passkey_webauthn_json::options::{
     CredentialOptions, PublicKeyCredentialCreationOptions, PublicKeyCredentialRequestOptions,
 };
 use passkey_webauthn::{

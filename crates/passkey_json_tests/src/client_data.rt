@@ -4,7 +4,7 @@
 use crate::json::{assert_shows, displayed, parsed};
 use indexmap::IndexMap;
 use passkey_bytes::Text;
-use passkey_client_data::{ClientDataExtra, ClientDataType, CollectedClientData};
+use passkey_webauthn_json::client_data::{ClientDataExtra, ClientDataType, CollectedClientData};
 use passkey_json::{JsonFault, Object};
 use passkey_memory::OutOfMemory;
 use serde_json::Value;

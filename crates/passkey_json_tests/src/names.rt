@@ -1,10 +1,10 @@
 //! The names of values in WebAuthn Level 3.
 use crate::json::{assert_shows, debugged, displayed};
-use passkey_client_data::ClientDataType;
+use passkey_webauthn_json::client_data::ClientDataType;
 use passkey_json::{
     AuthenticatorAttachment, ResidentKeyRequirement, UserVerificationRequirement as Verification,
 };
-use passkey_options::{
+use passkey_webauthn_json::options::{
     AttestationConveyancePreference as Conveyance, AttestationStatementFormatIdentifiers as Format,
     PublicKeyCredentialHints as Hint,
 };

@@ -2,7 +2,7 @@
 //! hand. The rows of the program contain whole options.
 use crate::json::{assert_reads, assert_rewrites};
 use passkey_json::BytesForm::{Base64Url, Numbers};
-use passkey_options::{
+use passkey_webauthn_json::options::{
     CredentialCreationOptions, CredentialRequestOptions, PublicKeyCredentialCreationOptions,
     PublicKeyCredentialRequestOptions,
 };

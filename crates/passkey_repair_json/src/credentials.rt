@@ -4,7 +4,7 @@ ghost use Rattle.passkey_repair_json.specs.Tables.{assertion_edits, registration
 use crate::deviation::Deviation;
 use crate::repair::Repair;
 use crate::repairs_json::PartRepairs;
-use passkey_credentials::{AuthenticatorAssertionResponse, AuthenticatorAttestationResponse};
+use passkey_webauthn_json::credentials::{AuthenticatorAssertionResponse, AuthenticatorAttestationResponse};
 
 impl PartRepairs for AuthenticatorAttestationResponse {
     ghost edits_around = { registration_edits };

@@ -4,7 +4,7 @@ ghost use Rattle.passkey_repair_json.specs.Tables.{creation_edits, request_edits
 use crate::deviation::Deviation;
 use crate::repair::Repair;
 use crate::repairs_json::PartRepairs;
-use passkey_options::{PublicKeyCredentialCreationOptions, PublicKeyCredentialRequestOptions};
+use passkey_webauthn_json::options::{PublicKeyCredentialCreationOptions, PublicKeyCredentialRequestOptions};
 
 impl PartRepairs for PublicKeyCredentialCreationOptions {
     ghost edits_around = { creation_edits };

@@ -3,9 +3,9 @@ ghost use Rattle.std.specs.Prelude.{◌≡◌, List, map};
 ghost use Rattle.passkey_repair_json.specs.Edits.{Edit, edit_of};
 
 use crate::repair::Repair;
-use passkey_credentials::{AuthenticatorResponse, PublicKeyCredential};
+use passkey_webauthn_json::credentials::{AuthenticatorResponse, PublicKeyCredential};
 use passkey_json::PlainJsonRecord;
-use passkey_options::CredentialOptions;
+use passkey_webauthn_json::options::CredentialOptions;
 
 /// A record whose known deviations are repaired.
 pub trait RepairsJson: PlainJsonRecord {

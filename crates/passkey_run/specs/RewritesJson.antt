@@ -1,8 +1,8 @@
 -- The output of decoding a JSON text and encoding the result.
 use Rattle.std.specs.Prelude.{◌≡◌, ℕ, Bool, List, false, Result, Ok, Err, ⊤}
-use Rattle.passkey_client_data.specs.ClientData.{client_data}
-use Rattle.passkey_client_data.specs.ClientDataText.{client_data_text}
-use Rattle.passkey_credentials.specs.Credentials.{assertion_response, attestation_response, credential}
+use Rattle.passkey_webauthn_json.specs.client_data.ClientData.{client_data}
+use Rattle.passkey_webauthn_json.specs.client_data.ClientDataText.{client_data_text}
+use Rattle.passkey_webauthn_json.specs.credentials.Credentials.{assertion_response, attestation_response, credential}
 use Rattle.passkey_json.specs.Fault.{Fault, Gives}
 use Rattle.passkey_json.specs.JsonText.{IsJson, HasNoJson}
 use Rattle.passkey_json.specs.Members.{◌>>=◌, Object, in_object}
@@ -11,7 +11,7 @@ use Rattle.passkey_json.specs.declared.bytes_form.BytesForm.{BytesForm}
 use Rattle.passkey_json.specs.declared.bytes_form.BytesForm.TheVariants.{Base64Url}
 use Rattle.passkey_json.specs.declared.json_fault.JsonFault.{JsonFault}
 use Rattle.passkey_json.specs.declared.json_fault.JsonFault.TheVariants as json
-use Rattle.passkey_options.specs.Options.{credential_creation, credential_request}
+use Rattle.passkey_webauthn_json.specs.options.Options.{credential_creation, credential_request}
 use Rattle.passkey_run.specs.declared.fault.RunFault.{RunFault}
 use Rattle.passkey_run.specs.declared.fault.RunFault.TheVariants.{JsonRefused, BadJson, OutOfMemory}
 use Rattle.passkey_run.specs.declared.kind.JsonKind.{JsonKind}

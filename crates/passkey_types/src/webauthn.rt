@@ -4,10 +4,10 @@ pub mod signals;
 
 pub use indexmap::IndexMap;
 pub use passkey_client as client;
-pub use passkey_client_data::{
+pub use passkey_webauthn_json::client_data::{
     ClientDataExtra, ClientDataFault, ClientDataType, CollectedClientData,
 };
-pub use passkey_credentials::{
+pub use passkey_webauthn_json::credentials::{
     AuthenticatedPublicKeyCredential, AuthenticatorAssertionResponse,
     AuthenticatorAttestationResponse, AuthenticatorResponse, CreatedPublicKeyCredential,
     PublicKeyCredential,
@@ -18,7 +18,7 @@ pub use passkey_json::{
     BytesForm, CredentialPropertiesOutput, FromJson, JsonFault, JsonRecord, RecordToJson,
     ResidentKeyRequirement, ToJson, UserVerificationRequirement, read_back,
 };
-pub use passkey_options::{
+pub use passkey_webauthn_json::options::{
     AttestationConveyancePreference, AttestationStatementFormatIdentifiers,
     CredentialCreationOptions, CredentialOptions, CredentialRequestOptions,
     PublicKeyCredentialCreationOptions, PublicKeyCredentialHints,

@@ -1,0 +1,3 @@
+pub mod options
+pub mod credentials
+pub mod client_data
