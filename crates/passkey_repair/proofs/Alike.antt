@@ -6,10 +6,10 @@ use Rattle.passkey_kinds.specs.Message.{Begins, ReadsMessage}
 use Rattle.passkey_kinds.specs.Record.{Fields, read_item}
 use Rattle.passkey_kinds.specs.declared.fault.Fault.{Fault}
 use Rattle.passkey_kinds.specs.declared.fault.Fault.TheVariants as fault
-use Rattle.passkey_repair.specs.Edit.{Edit}
-use Rattle.passkey_repair.specs.Laws.{DecodedDecodeAlike, DecodedIsNotRefused}
-use Rattle.passkey_repair.specs.Repaired.{read_lenient, read_repaired, repaired, unchanged, with_edits}
-use Rattle.passkey_repair.specs.Views.{lenient_view}
+use Rattle.passkey_repair.specs.messages.Edit.{Edit}
+use Rattle.passkey_repair.specs.messages.Laws.{DecodedDecodeAlike, DecodedIsNotRefused}
+use Rattle.passkey_repair.specs.messages.Repaired.{read_lenient, read_repaired, repaired, unchanged, with_edits}
+use Rattle.passkey_repair.specs.messages.Views.{lenient_view}
 use Rattle.std.proofs.Common.{Bool, Err, List, Ok, Result, [], ap, if◌then◌else◌, is_ok, refl, sym, unwrap_or, ℕ, ◌∙◌, ◌≡◌}
 use Rattle.std.specs.Result.{result_ok}
 

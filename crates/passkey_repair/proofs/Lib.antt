@@ -1,3 +1,5 @@
 pub mod Places
 pub mod Listing
 pub mod Alike
+pub mod Repairing
+pub mod Removing

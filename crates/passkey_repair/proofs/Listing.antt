@@ -1,8 +1,8 @@
 -- What repairs list.
 use Rattle.passkey_cbor.specs.Item.{Item}
-use Rattle.passkey_repair.specs.Edit.{Edit, edited}
-use Rattle.passkey_repair.specs.Laws.{ListIsWhatWasDone, NoneIsListedIfNoneFits, applied}
-use Rattle.passkey_repair.specs.Repaired.{Repaired, repaired, with_edit}
+use Rattle.passkey_repair.specs.messages.Edit.{Edit, edited}
+use Rattle.passkey_repair.specs.messages.Laws.{ListIsWhatWasDone, NoneIsListedIfNoneFits, applied}
+use Rattle.passkey_repair.specs.messages.Repaired.{Repaired, repaired, with_edit}
 use Rattle.std.proofs.Common.{List, None, Option, Some, [], ap, refl, sym, unwrap_or, ◌++◌, ◌∙◌, ◌↔◌, ◌∷◌, ◌≡◌}
 use Rattle.std.specs.List.{AllByRecursion}
 use Rattle.std.specs.Option.{option_and_then}

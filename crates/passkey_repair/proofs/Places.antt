@@ -5,7 +5,7 @@ use Rattle.passkey_cbor.specs.Item.{Item, text_string}
 use Rattle.passkey_cbor.specs.Same.{item_eq}
 use Rattle.passkey_cbor.specs.View.{item_of, pair_of}
 use Rattle.passkey_cbor.specs.declared.value.Value.{Value, Map}
-use Rattle.passkey_repair.specs.Edit.{Edits, EditsMembers, add, added, changed, edited_at, leave_out, left_out, map_of, no_member, place_of, value_at, with_edited, with_value, Change}
+use Rattle.passkey_repair.specs.messages.Edit.{Edits, EditsMembers, add, added, changed, edited_at, leave_out, left_out, map_of, no_member, place_of, value_at, with_edited, with_value, Change}
 use Rattle.std.proofs.Common.{Bool, Global, List, None, Option, Some, Vec, [], ap, cond, drop, false, get_or, if◌then◌else◌, length, map, nat_lt, not, option_map, refl, set, suc, sym, take, true, ℕ, ◌+◌, ◌++◌, ◌<◌, ◌∙◌, ◌∷◌, ◌≡◌}
 use Rattle.std.proofs.lemmas.List.{get_or-map, length-map, map-append, map-set, set-get_or}
 use Rattle.std.specs.List.{drop-map, position, prefix_len, remove, take-map}

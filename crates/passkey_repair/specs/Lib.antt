@@ -1,5 +1,2 @@
-pub mod Edit
-pub mod Views
-pub mod Repaired
-pub mod Tables
-pub mod Laws
+pub mod messages
+pub mod json

@@ -24,4 +24,4 @@ pub use passkey_kinds::{
     Wanted, WriteFault,
 };
 pub use passkey_registered as registered;
-pub use passkey_repair as repair;
+pub use passkey_repair::messages as repair;

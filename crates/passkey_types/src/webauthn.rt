@@ -24,7 +24,7 @@ pub use passkey_webauthn_json::options::{
     PublicKeyCredentialCreationOptions, PublicKeyCredentialHints,
     PublicKeyCredentialRequestOptions,
 };
-pub use passkey_repair_json as repair;
+pub use passkey_repair::json as repair;
 pub use passkey_webauthn::{
     AuthenticationExtensionsPrfOutputs, AuthenticationExtensionsPrfValues, AuthenticatorTransport,
     EnumNames, PublicKeyCredentialDescriptor, PublicKeyCredentialParameters,

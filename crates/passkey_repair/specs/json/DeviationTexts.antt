@@ -1,0 +1,15 @@
+-- What a deviation is called.
+use Rattle.std.specs.Prelude.{ℕ, List, codes}
+use Rattle.passkey_repair.specs.declared.json.deviation.Deviation.{Deviation}
+use Rattle.passkey_repair.specs.declared.json.deviation.Deviation.TheVariants as deviation
+
+abbrev pub deviation_text : Deviation → List ℕ
+deviation_text deviation.NullMember = codes "null, left out"
+deviation_text deviation.NoName = codes "absent or null, read as an empty text"
+deviation_text deviation.EmptyArray = codes "an empty array, read as an empty text"
+deviation_text deviation.WholeFloat = codes "a float with a whole value, read as an integer"
+deviation_text deviation.UnknownTransport = codes "unknown transports, left out"
+deviation_text deviation.NullOutputs = codes "null, read as an empty object"
+deviation_text deviation.RenamedOutputs = codes "absent, taken from extensions"
+deviation_text deviation.NoAuthenticatorData = codes "absent, taken from attestationObject"
+deviation_text deviation.NoKeyAlgorithm = codes "absent, taken from attestationObject"

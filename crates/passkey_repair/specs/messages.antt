@@ -1,0 +1,5 @@
+pub mod Edit
+pub mod Views
+pub mod Repaired
+pub mod Tables
+pub mod Laws

@@ -1,2 +1,0 @@
-pub mod Repairing
-pub mod Removing
