@@ -4,7 +4,7 @@ use crate::again_json::is_out_of_memory;
 use crate::hexadecimal::{decode, encode};
 use crate::making::key_of;
 use crate::setting::first_word;
-use passkey_relying_party::{
+use passkey_examples::relying_party::{
     CredentialRecord, Rejected, creation_options, register, request_options, sign_in,
 };
 use passkey_run::RunFault;
@@ -166,7 +166,7 @@ fn answered(
     request: &[u8],
     credential: AttestedCredentialData,
 ) -> Result<String, RunFault> {
-    match passkey_authenticator::answer(alloc, request, credential) {
+    match passkey_examples::authenticator::answer(alloc, request, credential) {
         Ok(answer) => encode(alloc, &answer),
         Err(_) => Err(RunFault::OutOfMemory),
     }

@@ -10,8 +10,8 @@
 //! attestation statement.
 ghost use Rattle.std.specs.Prelude.{◌≤◌, length, IfNone, IfOk};
 
-use crate::RP_ID;
-use crate::checks::{Rejected, check_client_data, unless, wrong_data};
+use crate::relying_party::RP_ID;
+use crate::relying_party::checks::{Rejected, check_client_data, unless, wrong_data};
 use passkey_types::bitflags::Flags as _;
 use passkey_types::cose::iana::Algorithm;
 use passkey_types::cose::{CoseKey, Registered};

@@ -1,5 +1,5 @@
 //! A further member of client data, decoded by the relying party's own type.
-ghost use Rattle.passkey_relying_party.specs.PackageName.{is_package_name, name_members, name_members_are_extra};
+ghost use Rattle.passkey_examples.specs.relying_party.PackageName.{is_package_name, name_members, name_members_are_extra};
 
 use passkey_types::json::{Object, Value};
 use passkey_types::webauthn::{ClientDataExtra, JsonFault};

@@ -1,7 +1,7 @@
 //! What both ceremonies check: client data and authenticator data.
 ghost use Rattle.std.specs.Prelude.{◌≡◌, None, OnOk};
 
-use crate::{APP, ORIGIN, PackageName, RP_ID};
+use crate::relying_party::{APP, ORIGIN, PackageName, RP_ID};
 use passkey_types::bitflags::Flags as _;
 use passkey_types::cose::CoseError;
 use passkey_types::ctap2::{AuthenticatorData, Fault, Flags};

@@ -1,8 +1,6 @@
 //! A relying party that registers passkeys and signs users in: it sends options to the browser, and
 //! checks what the browser returns (WebAuthn Level 3, sections 7.1 and 7.2). The modules say which
 //! steps of these sections they do, and which they leave to the caller.
-#![tactic(auto)]
-
 mod checks;
 mod package_name;
 mod registration;

@@ -2,8 +2,8 @@
 ghost use Rattle.std.specs.Prelude.{◌≡◌, None, OnOk, take};
 ghost use Rattle.sha2.specs.Sha256.{sha256};
 
-use crate::exchange::exchange;
-use crate::{Failed, PinUvAuthProtocol, Transport};
+use crate::platform::exchange::exchange;
+use crate::platform::{Failed, PinUvAuthProtocol, Transport};
 use passkey_types::cose::CoseKey;
 use passkey_types::ctap2::client_pin::{Permissions, Request, Response, SubCommand};
 use passkey_types::ctap2::framing::Command;

@@ -1,8 +1,8 @@
 //! Asking an authenticator for its credentials.
 ghost use Rattle.std.specs.Prelude.{◌≡◌, ◌∷◌, [], IfOk, take};
 
-use crate::exchange::framed;
-use crate::{Failed, PinUvAuthProtocol};
+use crate::platform::exchange::framed;
+use crate::platform::{Failed, PinUvAuthProtocol};
 use passkey_types::ctap2::Message;
 use passkey_types::ctap2::credential_management::{Parameters, Request, SubCommand};
 use passkey_types::ctap2::framing::Command;

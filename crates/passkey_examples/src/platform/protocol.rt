@@ -1,5 +1,5 @@
 //! What a platform needs of a PIN/UV auth protocol.
-use crate::Failed;
+use crate::platform::Failed;
 use passkey_types::cose::CoseKey;
 use std::alloc::Global;
 

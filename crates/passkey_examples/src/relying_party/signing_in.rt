@@ -10,9 +10,9 @@
 ghost use Rattle.std.specs.Prelude.{◌≡◌, ◌++◌, IfOk};
 ghost use Rattle.sha2.specs.Sha256.{sha256};
 
-use crate::RP_ID;
-use crate::checks::{Rejected, check_client_data, unless, wrong_data};
-use crate::registration::{CredentialRecord, json_text};
+use crate::relying_party::RP_ID;
+use crate::relying_party::checks::{Rejected, check_client_data, unless, wrong_data};
+use crate::relying_party::registration::{CredentialRecord, json_text};
 use passkey_types::bitflags::Flags as _;
 use passkey_types::ctap2::{AuthenticatorData, Flags};
 use passkey_types::json::Value;

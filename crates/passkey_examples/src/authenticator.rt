@@ -1,7 +1,5 @@
 //! An authenticator that handles authenticatorMakeCredential: it decodes the request, checks
 //! whether it can do what is asked, and encodes the response (CTAP 2.1, section 6.1.2).
-#![tactic(auto)]
-
 ghost use Rattle.std.specs.Prelude.{◌≢◌, ◌<◌, length, IfErr, IfOk, IfSome};
 
 use passkey_types::cbor::Value;
