@@ -7,14 +7,14 @@ ghost use Rattle.serde_json.specs.View.{view};
 
 use crate::json_kind::FurtherJsonKind;
 use passkey_client::{
-    ClientCapabilities, ClientExtensionInputs, ClientExtensionOutputs, MediatedOptions,
-    PaymentData, TopOrigin,
+    AllAcceptedCredentialsOptions, ClientCapabilities, ClientExtensionInputs,
+    ClientExtensionOutputs, CurrentUserDetailsOptions, MediatedOptions, PaymentData, TopOrigin,
+    UnknownCredentialOptions,
 };
 use passkey_json::{BytesForm, FromJson, JsonFault, JsonRefusal, ToJson};
-use passkey_webauthn_json::options::{PublicKeyCredentialCreationOptions, PublicKeyCredentialRequestOptions};
 use passkey_run::{RunFault, parse_json, rewrite_client_data, rewrite_record};
-use passkey_client::{
-    AllAcceptedCredentialsOptions, CurrentUserDetailsOptions, UnknownCredentialOptions,
+use passkey_webauthn_json::options::{
+    PublicKeyCredentialCreationOptions, PublicKeyCredentialRequestOptions,
 };
 use serde_json::Value;
 use std::alloc::Global;

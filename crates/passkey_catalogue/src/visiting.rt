@@ -5,12 +5,11 @@ use crate::form::Form;
 use crate::further_kind::FurtherKind;
 use crate::kind::Kind;
 use passkey_attestation::AttestationFormat;
-use passkey_commands::bio_enrollment as bio;
-use passkey_commands::client_pin as pin;
-use passkey_commands::config as config;
-use passkey_commands::credential_management as credentials;
+use passkey_commands::{
+    bio_enrollment as bio, client_pin as pin, config as config,
+    credential_management as credentials, large_blobs as blobs,
+};
 use passkey_registered::extensions::{get_assertion, make_credential};
-use passkey_commands::large_blobs as blobs;
 use passkey_run::{Visitor, visit_bytes};
 
 /// Does it with an input of this kind.

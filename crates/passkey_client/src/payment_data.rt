@@ -6,11 +6,11 @@ use crate::payment::{
     PaymentCredentialInstrument, PaymentCurrencyAmount, PaymentEntityLogo, copy_of,
 };
 use passkey_bytes::{Bytes, List, Text};
-use passkey_webauthn_json::client_data::{ClientDataExtra, ClientDataType};
 use passkey_json::{
     BytesForm, EncodeResult, JsonEncoder, JsonFault, Member, Object, PlainJsonRecord, Row, ToJson,
 };
 use passkey_memory::OutOfMemory;
+use passkey_webauthn_json::client_data::{ClientDataExtra, ClientDataType};
 use serde_json::Value;
 use std::alloc::Global;
 

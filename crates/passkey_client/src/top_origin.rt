@@ -2,9 +2,9 @@
 ghost use Rattle.passkey_client.specs.TopOrigin.{is_top_origin, origin_members, origin_members_are_extra};
 
 use passkey_bytes::Text;
-use passkey_webauthn_json::client_data::ClientDataExtra;
 use passkey_json::{JsonFault, Object};
 use passkey_memory::OutOfMemory;
+use passkey_webauthn_json::client_data::ClientDataExtra;
 use serde_json::Value;
 use std::alloc::Global;
 use std::marker::Model;

@@ -2,7 +2,9 @@
 //! they are given.
 use crate::hexadecimal::{decode, encode};
 use crate::setting::first_word;
-use passkey_examples::platform::{Failed, PinUvAuthProtocol, Transport, credentials_request, token_by_pin};
+use passkey_examples::platform::{
+    Failed, PinUvAuthProtocol, Transport, credentials_request, token_by_pin,
+};
 use passkey_run::RunFault;
 use passkey_types::cose::{CoseError, CoseKey};
 use passkey_types::ctap2::client_pin::Permissions;

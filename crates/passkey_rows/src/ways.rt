@@ -9,7 +9,9 @@ use crate::tries::Tries;
 use passkey_catalogue::{FurtherKind, Kind};
 use passkey_run::{BytesKind, RunFault};
 use passkey_types::ctap2::extensions::HmacGetSecretInput;
-use passkey_types::ctap2::registered::extensions::{get_assertion as used, make_credential as made};
+use passkey_types::ctap2::registered::extensions::{
+    get_assertion as used, make_credential as made,
+};
 use passkey_types::ctap2::{
     Message, ToCbor, bio_enrollment, client_pin, config, credential_management, get_assertion,
     get_info, large_blobs, make_credential, registered,

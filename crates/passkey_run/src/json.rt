@@ -6,9 +6,11 @@ ghost use Rattle.passkey_run.specs.declared.fault.RunFault.TheVariants.{BadJson,
 ghost use Rattle.serde_json.specs.View.{view};
 
 use crate::{JsonKind, RunFault};
-use passkey_webauthn_json::client_data::{ClientDataExtra, CollectedClientData};
-use passkey_webauthn_json::credentials::{AuthenticatedPublicKeyCredential, CreatedPublicKeyCredential};
 use passkey_json::{BytesForm, JsonRecord, ToJson};
+use passkey_webauthn_json::client_data::{ClientDataExtra, CollectedClientData};
+use passkey_webauthn_json::credentials::{
+    AuthenticatedPublicKeyCredential, CreatedPublicKeyCredential,
+};
 use passkey_webauthn_json::options::{CredentialCreationOptions, CredentialRequestOptions};
 use serde_json::Value;
 use serde_json::error::Category;

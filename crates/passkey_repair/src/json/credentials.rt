@@ -4,7 +4,9 @@ ghost use Rattle.passkey_repair.specs.json.Tables.{assertion_edits, registration
 use crate::json::deviation::Deviation;
 use crate::json::repair::Repair;
 use crate::json::repairs_json::PartRepairs;
-use passkey_webauthn_json::credentials::{AuthenticatorAssertionResponse, AuthenticatorAttestationResponse};
+use passkey_webauthn_json::credentials::{
+    AuthenticatorAssertionResponse, AuthenticatorAttestationResponse,
+};
 
 impl PartRepairs for AuthenticatorAttestationResponse {
     ghost edits_around = { registration_edits };

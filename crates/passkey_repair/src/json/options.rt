@@ -4,7 +4,9 @@ ghost use Rattle.passkey_repair.specs.json.Tables.{creation_edits, request_edits
 use crate::json::deviation::Deviation;
 use crate::json::repair::Repair;
 use crate::json::repairs_json::PartRepairs;
-use passkey_webauthn_json::options::{PublicKeyCredentialCreationOptions, PublicKeyCredentialRequestOptions};
+use passkey_webauthn_json::options::{
+    PublicKeyCredentialCreationOptions, PublicKeyCredentialRequestOptions,
+};
 
 impl PartRepairs for PublicKeyCredentialCreationOptions {
     ghost edits_around = { creation_edits };

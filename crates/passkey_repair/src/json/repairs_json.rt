@@ -3,8 +3,8 @@ ghost use Rattle.std.specs.Prelude.{◌≡◌, List, map};
 ghost use Rattle.passkey_repair.specs.json.Edits.{Edit, edit_of};
 
 use crate::json::repair::Repair;
-use passkey_webauthn_json::credentials::{AuthenticatorResponse, PublicKeyCredential};
 use passkey_json::PlainJsonRecord;
+use passkey_webauthn_json::credentials::{AuthenticatorResponse, PublicKeyCredential};
 use passkey_webauthn_json::options::CredentialOptions;
 
 /// A record whose known deviations are repaired.
