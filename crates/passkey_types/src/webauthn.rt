@@ -1,7 +1,5 @@
 //! What a relying party and a browser exchange (WebAuthn Level 3), decoded from JSON values and
 //! encoded.
-pub mod signals;
-
 pub use indexmap::IndexMap;
 pub use passkey_client as client;
 pub use passkey_json::{
