@@ -4,9 +4,9 @@ use Rattle.std.specs.Str.{chars}
 use Rattle.hex.specs.Hex.{encode_lower}
 use Rattle.passkey_cbor.specs.Item.{Item}
 use Rattle.passkey_cbor.specs.LeadingItem.{IsLeadingItem}
-use Rattle.passkey_diagnose.specs.Diagnosis.{diagnosis}
-use Rattle.passkey_diagnose.specs.BytesText.{bytes_diagnosis}
-use Rattle.passkey_diagnose.specs.Quoted.{visible_text}
+use Rattle.passkey_cbor_text.specs.diagnose.Diagnosis.{diagnosis}
+use Rattle.passkey_cbor_text.specs.diagnose.BytesText.{bytes_diagnosis}
+use Rattle.passkey_cbor_text.specs.diagnose.Quoted.{visible_text}
 use Rattle.passkey_explain.specs.Described.{Described}
 use Rattle.passkey_report.specs.Json.{json_text}
 use Rattle.passkey_inspect_input.specs.Input.{bytes_as}

@@ -4,8 +4,8 @@ use Rattle.std.specs.Fmt.{signed_decimal}
 use Rattle.base64.specs.Engines.{url_safe_no_pad}
 use Rattle.base64.specs.GeneralPurpose.{encode_of}
 use Rattle.passkey_cbor.specs.Item.{Item, number, byte_string, text_string, boolean, null}
-use Rattle.passkey_diagnose.specs.Diagnosis.{diagnosis}
-use Rattle.passkey_diagnose.specs.Quoted.{quoted}
+use Rattle.passkey_cbor_text.specs.diagnose.Diagnosis.{diagnosis}
+use Rattle.passkey_cbor_text.specs.diagnose.Quoted.{quoted}
 use Rattle.passkey_explain.specs.Described.{Described, Parts, Sort, Label, leaf, parts, no_parts, part, list, element, key, member, unknown}
 use Rattle.uuid.specs.Text.{hyphenated_text, lower}
 use Rattle.passkey_iana.specs.Iana.{algorithm_named}

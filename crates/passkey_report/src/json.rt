@@ -1,15 +1,15 @@
 //! A description as JSON (RFC 8259).
 ghost use Rattle.std.specs.Prelude.{◌≡◌, ◌++◌, ◌∷◌, [], OnOk, IfOk, map, string_bytes};
 ghost use Rattle.passkey_cbor.specs.View.{item_of};
-ghost use Rattle.passkey_diagnose.specs.Diagnosis.{diagnosis};
-ghost use Rattle.passkey_diagnose.specs.Quoted.{quoted};
+ghost use Rattle.passkey_cbor_text.specs.diagnose.Diagnosis.{diagnosis};
+ghost use Rattle.passkey_cbor_text.specs.diagnose.Quoted.{quoted};
 ghost use Rattle.passkey_explain.specs.Described.{described_of, label_of, labelled, parts_from, element};
 ghost use Rattle.passkey_report.specs.Json.{bytes_json, comma_if, json_text, key_json, label_json, leaf_json, number_json, parts_json};
 
 use crate::leaf::{AAGUID, algorithm_name, algorithm_of, uuid_text};
 use passkey_bytes::encoding::base64url;
 use passkey_cbor::{Integer, Value};
-use passkey_diagnose::{diagnose, quote};
+use passkey_cbor_text::diagnose::{diagnose, quote};
 use passkey_explain::{Description, FieldName};
 use passkey_kinds::Wanted;
 use passkey_memory::OutOfMemory;

@@ -2,7 +2,7 @@
 
 use crate::leaf::leaf_text;
 use passkey_cbor::{Cursor, Head};
-use passkey_diagnose::diagnose;
+use passkey_cbor_text::diagnose::diagnose;
 use passkey_explain::{Description, FieldName};
 use passkey_memory::OutOfMemory;
 use std::alloc::Global;

@@ -1,7 +1,7 @@
 //! A report: one member a line.
 
 use crate::leaf::leaf_text;
-use passkey_diagnose::diagnose;
+use passkey_cbor_text::diagnose::diagnose;
 use passkey_explain::{Description, DroppedItem, FieldName};
 use passkey_memory::OutOfMemory;
 use std::alloc::Global;

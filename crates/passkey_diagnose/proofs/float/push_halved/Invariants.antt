@@ -1,9 +1,0 @@
-use Rattle.std.proofs.Common.{◌≡◌}
-use Rattle.passkey_diagnose.specs.FloatText.{halved_text}
-use Rattle.passkey_diagnose.proofs.float.push_halved.Given as goal
-
-abbrev pub invariant-loop-k : goal.invariant-loop-k
-invariant-loop-k l = halved_text l.n l.k ≡ halved_text l.initial.n l.initial.k
-
-abbrev pub decreases-loop-k : goal.decreases-loop-k
-decreases-loop-k l = l.k
