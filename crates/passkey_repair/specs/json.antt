@@ -1,4 +1,4 @@
-pub mod DeviationTexts
+pub mod Texts
 pub mod AttestationObjects
 pub mod Changes
 pub mod Edits

@@ -3,3 +3,4 @@ pub mod Views
 pub mod Repaired
 pub mod Tables
 pub mod Laws
+pub mod Texts

@@ -1,6 +1,6 @@
 //! Deviations from WebAuthn's JSON.
 ghost use Rattle.std.specs.Prelude.{Some};
-ghost use Rattle.passkey_repair.specs.json.DeviationTexts.{deviation_text};
+ghost use Rattle.passkey_repair.specs.json.Texts.{deviation_text};
 
 use std::fmt;
 

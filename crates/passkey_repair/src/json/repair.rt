@@ -1,4 +1,6 @@
 //! Repairs: a deviation, and the member that may have it.
+ghost use Rattle.std.specs.Prelude.{Some};
+ghost use Rattle.passkey_repair.specs.json.Texts.{repair_text};
 
 use crate::json::deviation::Deviation;
 use std::fmt;
@@ -15,6 +17,8 @@ pub struct Repair {
 }
 
 impl fmt::Display for Repair {
+    ghost output = { λ r. Some (repair_text r) };
+
     /// Writes the member's place, and the deviation: `publicKey.timeout: null, left out`.
     fn fmt<W: fmt::Write>(&self, f: &mut fmt::Formatter<W>) -> fmt::Result {
         for name in self.within {

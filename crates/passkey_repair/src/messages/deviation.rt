@@ -1,4 +1,6 @@
 //! What programs are known to send, and tables refuse.
+ghost use Rattle.std.specs.Prelude.{Some};
+ghost use Rattle.passkey_repair.specs.messages.Texts.{deviation_text};
 
 use std::fmt;
 
@@ -30,6 +32,8 @@ pub enum Deviation {
 }
 
 impl fmt::Display for Deviation {
+    ghost output = { λ d. Some (deviation_text d) };
+
     fn fmt<W: fmt::Write>(&self, f: &mut fmt::Formatter<W>) -> fmt::Result {
         f.write_str(match self {
             Deviation::AbsentName => "a user's name left out, as Chrome and libfido2 do",

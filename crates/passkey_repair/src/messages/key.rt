@@ -1,7 +1,8 @@
 //! Map keys on the way to what is repaired.
-ghost use Rattle.std.specs.Prelude.{◌≡◌};
+ghost use Rattle.std.specs.Prelude.{◌≡◌, Some};
 ghost use Rattle.passkey_cbor.specs.Same.{item_eq};
 ghost use Rattle.passkey_cbor.specs.View.{item_of};
+ghost use Rattle.passkey_repair.specs.messages.Texts.{key_text};
 ghost use Rattle.passkey_repair.specs.messages.Views.{key_item};
 
 use passkey_cbor::Value;
@@ -30,6 +31,8 @@ impl Key {
 }
 
 impl fmt::Display for Key {
+    ghost output = { λ k. Some (key_text k) };
+
     fn fmt<W: fmt::Write>(&self, f: &mut fmt::Formatter<W>) -> fmt::Result {
         match self {
             Key::Number(_, name) | Key::Name(name) => f.write_str(name),

@@ -1,6 +1,7 @@
 //! Data items that repairs find and leave.
-ghost use Rattle.std.specs.Prelude.{◌≡◌};
+ghost use Rattle.std.specs.Prelude.{◌≡◌, Some};
 ghost use Rattle.passkey_cbor.specs.View.{item_of};
+ghost use Rattle.passkey_repair.specs.messages.Texts.{literal_text};
 ghost use Rattle.passkey_repair.specs.messages.Views.{literal_item};
 
 use passkey_cbor::Value;
@@ -38,6 +39,8 @@ impl Literal {
 }
 
 impl fmt::Display for Literal {
+    ghost output = { λ l. Some (literal_text l) };
+
     fn fmt<W: fmt::Write>(&self, f: &mut fmt::Formatter<W>) -> fmt::Result {
         f.write_str(match self {
             Literal::EmptyText => "an empty text",
