@@ -1,6 +1,6 @@
 //! A data item's bytes, head by head, with what each means (RFC 8949, section 3).
-use passkey_cbor::{CborError, Cursor, Head, Value};
 use crate::diagnose::{diagnose, quote};
+use passkey_cbor::{CborError, Cursor, Head, Value};
 use passkey_memory::OutOfMemory;
 use std::alloc::Global;
 

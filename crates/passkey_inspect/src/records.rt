@@ -9,12 +9,14 @@ use crate::kind::{FOUND_JSON_KINDS, InspectKind, name_of};
 use crate::options::{Options, Output};
 use passkey_bytes::{Bytes, BytesFault};
 use passkey_catalogue::rewrite_further_json;
-use passkey_webauthn_json::credentials::{AuthenticatedPublicKeyCredential, CreatedPublicKeyCredential};
 use passkey_cbor_text::diagnose::escape_controls;
 use passkey_explain_json::{JsonExplanation, explain_client_data, explain_json};
 use passkey_memory::OutOfMemory;
-use passkey_webauthn_json::options::{CredentialCreationOptions, CredentialRequestOptions};
 use passkey_run::{BytesKind, JsonKind, RunFault, parse_json, rewrite_json};
+use passkey_webauthn_json::credentials::{
+    AuthenticatedPublicKeyCredential, CreatedPublicKeyCredential,
+};
+use passkey_webauthn_json::options::{CredentialCreationOptions, CredentialRequestOptions};
 use serde_json::Value;
 use std::alloc::Global;
 

@@ -4,9 +4,9 @@ ghost use Rattle.uuid.specs.Text.{hyphenated_text, lower};
 ghost use Rattle.passkey_report.specs.Json.{algorithm_in, algorithm_name};
 
 use passkey_cbor::{Integer, Value};
+use passkey_cbor_text::diagnose::diagnose;
 use passkey_core::iana::{Algorithm, EnumI64};
 use passkey_cose::signed_64;
-use passkey_cbor_text::diagnose::diagnose;
 use passkey_kinds::Wanted;
 use passkey_memory::OutOfMemory;
 use std::alloc::Global;
