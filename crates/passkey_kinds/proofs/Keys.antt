@@ -1,6 +1,7 @@
 -- The rows that names and map keys name.
-use Rattle.passkey_kinds.proofs.Common.{named_as, IsEncodedAt, CursorState, LooksOnce, Spends, Further, Onward, sym, nat_tests, find, bytes_eq, ◌≡◌, ◌∙◌, ◌<◌, ◌==◌, ℕ, arith, zero, suc, Bool, true, ◌+◌, List, [], ◌∷◌, ◌++◌, length, map, take, drop, set, get_or, Bor, add-one, Option, Some, None, cond, nat_lt, slice_get, refl, ap, cases_lt, eqb-true, length-map, map_push, take_more_set, Item, scalar_in, naming_of, IfSome, entry_of, Row, Entry, row, wrong, row_or_unknown, names, position, position_or_len, take-suc, slice_get_past, row_at, row_named}
-use Rattle.std.specs.Prelude.{IfNone}
+use Rattle.passkey_kinds.proofs.Common.{named_as, IsEncodedAt, CursorState, LooksOnce, Spends, Further, Onward, sym, nat_tests, find, bytes_eq, ◌≡◌, ◌∙◌, ◌<◌, ◌==◌, ℕ, arith, zero, suc, Bool, true, ◌+◌, List, [], ◌∷◌, ◌++◌, length, map, take, drop, set, get_or, Bor, add-one, Option, Some, None, cond, nat_lt, slice_get, refl, ap, cases_lt, eqb-true, length-map, map_push, take_more_set, Item, scalar_in, naming_of, IfSome, entry_of, Row, Entry, row, wrong, row_or_unknown, names, position, position_or_len, take-suc, slice_get_past, row_at, row_named, both_names, goes_by, append_assoc, lt-ltb, ◌⊎◌, inl, inr, ◌*◌, ◌≤◌, not, false, ◌||◌}
+use Rattle.std.specs.Prelude.{IfNone, ◌/◌}
+use Rattle.std.proofs.lemmas.List.{length-set}
 use Rattle.passkey_kinds.specs.RecordReading.{ReadsKey, FindsRow, LooksTwice}
 use Rattle.passkey_kinds.proofs.Lent.{missed_spends}
 use Rattle.passkey_kinds.proofs.Cursor.{further_from, stands_back}
@@ -13,18 +14,38 @@ use Rattle.passkey_cbor.specs.Item as item
 one_and : (k : ℕ) → 1 + k ≡ suc k
 one_and k = omega arith
 
-at_first : (s : List ℕ) (es : List Entry) → slice_get es (position_or_len (λ n. bytes_eq n s)
-    (map (λ (e : Entry). e.name) es)) ≡ find (λ (e : Entry). bytes_eq e.name s) es
-at_first s [] = refl
-at_first s (e ∷ es) = grind (arith, one_and, at_first s es)
+half_more : (k : ℕ) → (1 + (1 + k)) / 2 ≡ suc (k / 2)
+half_more k = omega arith
 
-row_within : (es : List Entry) (k len : ℕ) → len ≡ length es
-    → row_at es (cond (nat_lt k len) (Some k) None) ≡ row_or_unknown (slice_get es k)
-row_within es k len same = grind (arith, cases_lt, slice_get_past, nat_tests)
+at_first : (s : List ℕ) (es : List Entry)
+    → slice_get es (position_or_len (λ n. bytes_eq n s) (both_names es) / 2) ≡ find (goes_by s) es
+at_first s [] = refl
+at_first s (e ∷ es) =
+    by_names (position_or_len (λ n. bytes_eq n s) (both_names es)) (at_first s es) (bytes_eq e.name s) (bytes_eq e.other s) where
+      by_names : (k : ℕ) {found : Option Entry} → slice_get es (k / 2) ≡ found → (a b : Bool)
+          → slice_get (e ∷ es) (cond (not a) (1 + cond (not b) (1 + k) 0) 0 / 2) ≡ cond (a || b) (Some e) found
+      by_names k later true b = refl
+      by_names k later false true = refl
+      by_names k later false false = rw (half_more k) later
+
+twice_as_long : (es : List Entry) → length (both_names es) ≡ 2 * length es
+twice_as_long [] = refl
+twice_as_long (e ∷ es) = let more = twice_as_long es in omega arith
+
+row_within : (es : List Entry) (k len : ℕ) → len ≡ 2 * length es
+    → row_at es (cond (nat_lt k len) (Some k) None) ≡ row_or_unknown (slice_get es (k / 2))
+row_within es k len same = by_order (cases_lt k len) where
+  past : len ≤ k → length es ≤ k / 2
+  past h = omega (arith, h, same)
+
+  by_order : (k < len) ⊎ (len ≤ k) → row_at es (cond (nat_lt k len) (Some k) None) ≡ row_or_unknown (slice_get es (k / 2))
+  by_order (inl less) = rw (lt-ltb k len less) refl
+  by_order (inr more) = rw (slice_get_past es (k / 2) (past more)) (grind (arith, nat_tests))
 
 pub row_of_name : (s : List ℕ) (es : List Entry)
-    → row_at es (position (λ n. bytes_eq n s) (map (λ (e : Entry). e.name) es)) ≡ row_named es s
-row_of_name s es = grind (arith, row_within, length-map, at_first)
+    → row_at es (position (λ n. bytes_eq n s) (both_names es)) ≡ row_named es s
+row_of_name s es = row_within es (position_or_len (λ n. bytes_eq n s) (both_names es)) (length (both_names es)) (twice_as_long es)
+    ∙ ap row_or_unknown (at_first s es)
 
 -- ---- a row that is found among the last ones
 
@@ -41,14 +62,41 @@ found_behind n m (suc k) (e ∷ es) h = grind (arith, eqb-true, found_number, fo
 
 -- ---- the rows' names, one after the other
 
-pub one_more_name : (rows : List Row) (names : List (Bor (List ℕ))) (i : ℕ) (name : Bor (List ℕ)) (d : Row)
-    → i < length rows → i < length names → name.now ≡ (entry_of (get_or rows i d)).name
-    → map (λ (n : Bor (List ℕ)). n.now) (take i names) ≡ map (λ (e : Entry). e.name) (map entry_of (take i rows))
-    → map (λ (n : Bor (List ℕ)). n.now) (take (i + 1) (set names i name))
-    ≡ map (λ (e : Entry). e.name) (map entry_of (take (i + 1) rows))
-one_more_name rows names i name d less within is before =
-    rw (take_more_set names i name within, add-one, take-suc rows i d less)
-    (simp map_push (λ j. before j ++ is j ∷ []))
+both_more : (es : List Entry) (e : Entry) → both_names (es ++ e ∷ []) ≡ both_names es ++ e.name ∷ e.other ∷ []
+both_more [] e = refl
+both_more (d ∷ es) e = ap (λ (ns : List (List ℕ)). d.name ∷ d.other ∷ ns) (both_more es e)
+
+two_more : (names : List (Bor (List ℕ))) (k : ℕ) (a b : Bor (List ℕ)) → k + 1 < length names
+    → take (k + 1 + 1) (set (set names k a) (k + 1) b) ≡ (take k names ++ a ∷ []) ++ b ∷ []
+two_more names k a b within =
+    let less : k + 1 < length (set names k a) = omega (arith, length-set {A = Bor (List ℕ)}, within) in
+    let first : k < length names = omega (arith, within) in
+    take_more_set (set names k a) (k + 1) b less
+    ∙ ap (λ (ns : List (Bor (List ℕ))). ns ++ b ∷ []) (take_more_set names k a first)
+
+pub two_more_names : (rows : List Row) (names : List (Bor (List ℕ))) (i : ℕ) (a b : Bor (List ℕ)) (d : Row)
+    → i < length rows → 2 * i + 1 < length names → a.now ≡ (entry_of (get_or rows i d)).name
+    → b.now ≡ (entry_of (get_or rows i d)).other
+    → map (λ (n : Bor (List ℕ)). n.now) (take (2 * i) names) ≡ both_names (map entry_of (take i rows))
+    → map (λ (n : Bor (List ℕ)). n.now) (take (2 * (i + 1)) (set (set names (2 * i) a) (2 * i + 1) b))
+    ≡ both_names (map entry_of (take (i + 1) rows))
+two_more_names rows names i a b d less within is also before =
+    let e : 2 * (i + 1) ≡ 2 * i + 1 + 1 = omega arith in
+    let row = entry_of (get_or rows i d) in
+    rw (
+      e,
+      two_more names (2 * i) a b within,
+      map_push,
+      map_push,
+      before,
+      is,
+      also,
+      add-one,
+      take-suc rows i d less,
+      map_push,
+      both_more (map entry_of (take i rows)) row,
+      append_assoc,
+    ) refl
 
 -- ---- what a map key names that isn't a string
 

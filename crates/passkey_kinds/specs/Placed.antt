@@ -2,7 +2,7 @@
 use Rattle.passkey_kinds.specs.Base.{Item, text_string, IfPresent}
 use Rattle.std.specs.Prelude.{◌≡◌, ℕ, ◌<◌, ◌^◌, Some, List, length, Bool, false, [], ◌∷◌, Option}
 use Rattle.passkey_kinds.specs.Kind.{Kind, Typed}
-use Rattle.passkey_kinds.specs.Record.{Member, Fields, required, default, record_kind}
+use Rattle.passkey_kinds.specs.Record.{Member, Fields, required, default, default_or, record_kind}
 use Rattle.passkey_kinds.specs.Tree.{Place, number_tree, always, where_some, record_tree}
 use Rattle.passkey_kinds.specs.Typed.{optional, tolerated}
 use Rattle.std.specs.List.{All}
@@ -95,6 +95,12 @@ abbrev pub present_under : {M P : Type 0} → Typed (Option M) → Item → ℕ 
 present_under kind key n name c get set =
     placed_if (λ r. IfPresent c.Fits (get r)) (default n name kind set) (λ r. where_some key c.tree (get r))
 
+-- an optional member that also has another name, under which it is never encoded
+abbrev pub optional_under : {M P : Type 0} → Item → ℕ → List ℕ → List ℕ → Coded M → (P → Option M)
+    → (Option M → P → P) → Placed P
+optional_under key n name other c get set = placed_if (λ r. IfPresent c.Fits (get r))
+    (default_or n name other (optional c.typed) set) (λ r. where_some key c.tree (get r))
+
 -- the same under their names; null is decoded as if an optional member were absent, and what a
 -- tolerated member refuses as well
 abbrev pub required_as : {M P : Type 0} → ℕ → List ℕ → Coded M → (P → M) → (M → P → P) → Placed P
@@ -105,6 +111,10 @@ default_as n name = default_under (text_string name) n name
 
 abbrev pub optional_as : {M P : Type 0} → ℕ → List ℕ → Coded M → (P → Option M) → (Option M → P → P) → Placed P
 optional_as n name c = present_under (optional c.typed) (text_string name) n name c
+
+abbrev pub optional_as_or : {M P : Type 0} → ℕ → List ℕ → List ℕ → Coded M → (P → Option M)
+    → (Option M → P → P) → Placed P
+optional_as_or n name = optional_under (text_string name) n name
 
 abbrev pub tolerated_as : {M P : Type 0} → ℕ → List ℕ → Coded M → (P → Option M) → (Option M → P → P) → Placed P
 tolerated_as n name c = present_under (tolerated c.typed) (text_string name) n name c
@@ -118,6 +128,10 @@ default_at n name = default_under (number_tree n) n name
 
 abbrev pub optional_at : {M P : Type 0} → ℕ → List ℕ → Coded M → (P → Option M) → (Option M → P → P) → Placed P
 optional_at n name c = present_under (optional c.typed) (number_tree n) n name c
+
+abbrev pub optional_at_or : {M P : Type 0} → ℕ → List ℕ → List ℕ → Coded M → (P → Option M)
+    → (Option M → P → P) → Placed P
+optional_at_or n name = optional_under (number_tree n) n name
 
 abbrev pub tolerated_at : {M P : Type 0} → ℕ → List ℕ → Coded M → (P → Option M) → (Option M → P → P) → Placed P
 tolerated_at n name c = present_under (tolerated c.typed) (number_tree n) n name c

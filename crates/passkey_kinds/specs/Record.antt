@@ -38,8 +38,12 @@ abbrev pub row_or_unknown : Option Entry → Naming
 row_or_unknown (Some e) = row e.number
 row_or_unknown None = unknown
 
+-- a member goes by its name and by its other name
+abbrev pub goes_by : List ℕ → Entry → Bool
+goes_by name e = bytes_eq e.name name || bytes_eq e.other name
+
 abbrev pub row_named : List Entry → List ℕ → Naming
-row_named rows name = row_or_unknown (find (λ e. bytes_eq e.name name) rows)
+row_named rows name = row_or_unknown (find (goes_by name) rows)
 
 -- what an integer names: if members have numbers and it is below 256, the row with this number, if
 -- there is one
@@ -72,7 +76,7 @@ None >>= f = None
 
 -- ---- records as tables of members, each with the function that puts its value into the record
 
--- A member of a record: its number and name, its kind, and the function that puts its value into
+-- A member of a record: its number and names, its kind, and the function that puts its value into
 -- the record.
 pub record Member (P : Type 0) : Type 1 where
   pub Of : Type 0
@@ -87,13 +91,23 @@ pub record Fields (P : Type 0) : Type 1 where
   pub blank : P
   pub rows : List (Member P)
 
+abbrev pub entry : ℕ → List ℕ → Bool → Entry
+entry n name is_required = record { number = n; name = name; other = name; is_required = is_required }
+
 abbrev pub required : {M P : Type 0} → ℕ → List ℕ → Typed M → (M → P → P) → Member P
-required {M} n name kind set =
-    record { Of = M; entry = record { number = n; name = name; is_required = true }; kind = kind; set = set }
+required {M} n name kind set = record { Of = M; entry = entry n name true; kind = kind; set = set }
 
 abbrev pub default : {M P : Type 0} → ℕ → List ℕ → Typed M → (M → P → P) → Member P
-default {M} n name kind set =
-    record { Of = M; entry = record { number = n; name = name; is_required = false }; kind = kind; set = set }
+default {M} n name kind set = record { Of = M; entry = entry n name false; kind = kind; set = set }
+
+-- an optional member that is also decoded under another name
+abbrev pub default_or : {M P : Type 0} → ℕ → List ℕ → List ℕ → Typed M → (M → P → P) → Member P
+default_or {M} n name other kind set = record {
+  Of = M;
+  entry = record { number = n; name = name; other = other; is_required = false };
+  kind = kind;
+  set = set;
+}
 
 abbrev pub row_of : {P : Type 0} → Member P → Row
 row_of m = record { entry = m.entry; accepts = λ i. is_some (m.kind.of i); takes = m.kind.takes }

@@ -4,10 +4,11 @@ use Rattle.std.specs.Prelude.{ℕ, ◌==◌, Bool, true, ◌&&◌, if◌then◌e
 use Rattle.std.specs.Option.{option_and_then}
 use Rattle.passkey_kinds.specs.declared.wanted.Wanted.{Wanted}
 
--- a member's number and name, and whether it is required
+-- a member's number, its name, its other name (the same, if it has none), and whether it is required
 pub record Entry : Type 0 where
   pub number : ℕ
   pub name : List ℕ
+  pub other : List ℕ
   pub is_required : Bool
 
 -- A data item as a whole, and what is wanted of it; an array, a map whose keys are byte strings, or a record. For

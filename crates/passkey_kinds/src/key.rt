@@ -1,30 +1,30 @@
 //! Map keys at a cursor, and the rows that they name.
-ghost use Rattle.std.specs.Prelude.{◌≡◌, ◌≤◌, ℕ, Bool, List, Option, length, map, take, true, false, IfNone, IfSome};
-ghost use Rattle.passkey_kinds.specs.Words.{Item, LooksOnce, LooksTwice, FindsRow, scalar_in, wrong, IsRegion, HoldsString, IsEncodedAt, Onward, Further, LooksAtMost, naming_of, named_as, entry_of, names, row_named, ReadsKey, row_at, scalar_of};
+ghost use Rattle.std.specs.Prelude.{◌≡◌, ◌≤◌, ◌*◌, ℕ, Bool, List, Option, length, map, take, true, false, IfNone, IfSome};
+ghost use Rattle.passkey_kinds.specs.Words.{Item, LooksOnce, LooksTwice, FindsRow, both_names, scalar_in, wrong, IsRegion, HoldsString, IsEncodedAt, Onward, Further, LooksAtMost, naming_of, named_as, entry_of, names, row_named, ReadsKey, row_at, scalar_of};
 
 use crate::head::read_scalar;
 use crate::rows::{Named, Row, of_number, with_name};
 use passkey_cbor::{BytesToken, Cursor, Head, TextToken};
 
-/// Returns the names of at most 64 rows, followed by empty names.
-#[tactic(auto, using(crate::proofs::Keys::one_more_name))]
-fn names_of(rows: &[Row]) -> [&'static str; 64]
+/// Returns both names of each of at most 64 rows, followed by empty names.
+fn names_of(rows: &[Row]) -> [&'static str; 128]
     requires { length rows.now ≤ 64 }
-    ensures { map (λ n. n.now) (take (length rows.now) result) ≡ map (λ e. e.name) (map entry_of rows.now) }
+    ensures { map (λ n. n.now) (take (2 * length rows.now) result) ≡ both_names (map entry_of rows.now) }
 {
-    let mut names = [""; 64];
+    let mut names = [""; 128];
     for (i, row) in rows.iter().enumerate() {
-        names[i] = row.name();
+        names[2 * i] = row.name();
+        names[2 * i + 1] = row.other_name();
     }
     names
 }
 
-/// Returns the row at this index.
+/// Returns the row whose names `names_of` has at this index.
 fn at_index(rows: &[Row], index: Option<usize>) -> Named
     ensures { named_as result ≡ row_at (map entry_of rows.now) index }
 {
     match index {
-        Some(index) => match rows.get(index) {
+        Some(index) => match rows.get(index / 2) {
             Some(row) => Named::Row(row.number()),
             None => Named::Unknown,
         },
@@ -56,7 +56,7 @@ fn with_text_chunks(rows: &[Row], token: &TextToken<'_>, cursor: &mut Cursor<'_>
     ensures looks { LooksAtMost token.now cursor.old cursor.new }
 {
     let names = names_of(rows);
-    at_index(rows, token.name_of(&names[..rows.len()], cursor))
+    at_index(rows, token.name_of(&names[..2 * rows.len()], cursor))
 }
 
 /// Finds the row whose name is this byte string.
@@ -82,7 +82,7 @@ fn with_byte_chunks(rows: &[Row], token: &BytesToken<'_>, cursor: &mut Cursor<'_
     ensures looks { LooksAtMost token.now cursor.old cursor.new }
 {
     let names = names_of(rows);
-    at_index(rows, token.name_of(&names[..rows.len()], cursor))
+    at_index(rows, token.name_of(&names[..2 * rows.len()], cursor))
 }
 
 /// Returns what a map key with this head names. Returns `None` if it isn't an unsigned integer.

@@ -1,7 +1,7 @@
 //! The rows of a table, by number and name.
 ghost use Rattle.std.specs.Prelude.{◌≡◌, ◌==◌, map};
 ghost use Rattle.std.specs.List.{find};
-ghost use Rattle.passkey_kinds.specs.Words.{item_of, named_as, naming_of, entry_of, names, row_named, row_or_unknown, number_names};
+ghost use Rattle.passkey_kinds.specs.Words.{item_of, named_as, naming_of, entry_of, goes_by, names, row_named, row_or_unknown, number_names};
 
 use passkey_cbor::Value;
 
@@ -13,6 +13,8 @@ pub enum Row {
     Required(u8, &'static str),
     /// The member is optional.
     Optional(u8, &'static str),
+    /// The member is optional, and a map may have it under another name, which comes second.
+    Aliased(u8, &'static str, &'static str),
 }
 
 impl Row {
@@ -21,7 +23,9 @@ impl Row {
         ensures { result ≡ (entry_of self.now).number }
     {
         match self {
-            Row::Required(number, _) | Row::Optional(number, _) => *number,
+            Row::Required(number, _) | Row::Optional(number, _) | Row::Aliased(number, _, _) => {
+                *number
+            }
         }
     }
 
@@ -30,7 +34,26 @@ impl Row {
         ensures { result.now ≡ (entry_of self.now).name }
     {
         match self {
-            Row::Required(_, name) | Row::Optional(_, name) => name,
+            Row::Required(_, name) | Row::Optional(_, name) | Row::Aliased(_, name, _) => name,
+        }
+    }
+
+    /// Returns the member's other name, or its name if it has no other one.
+    pub(crate) fn other_name(&self) -> &'static str
+        ensures { result.now ≡ (entry_of self.now).other }
+    {
+        match self {
+            Row::Required(_, name) | Row::Optional(_, name) | Row::Aliased(_, _, name) => name,
+        }
+    }
+
+    /// Returns whether this is one of the member's names.
+    fn goes_by(&self, name: &[u8]) -> bool
+        ensures { result ≡ goes_by name.now (entry_of self.now) }
+    {
+        match self {
+            Row::Required(_, own) | Row::Optional(_, own) => own.as_bytes() == name,
+            Row::Aliased(_, own, other) => own.as_bytes() == name || other.as_bytes() == name,
         }
     }
 
@@ -39,7 +62,7 @@ impl Row {
     {
         match self {
             Row::Required(..) => true,
-            Row::Optional(..) => false,
+            Row::Optional(..) | Row::Aliased(..) => false,
         }
     }
 }
@@ -82,7 +105,7 @@ pub(crate) fn with_name(rows: &[Row], name: &[u8]) -> Named
     ensures { named_as result ≡ row_named (map entry_of rows.now) name.now }
 {
     for row in rows {
-        if row.name().as_bytes() == name {
+        if row.goes_by(name) {
             return Named::Row(row.number());
         }
     }

@@ -9,7 +9,6 @@ use Rattle.passkey_registered.specs.extensions.Prf.{prf_inputs, prf_outputs, prf
 use Rattle.passkey_registered.specs.extensions.GetAssertionInputs.{get_assertion_inputs}
 use Rattle.passkey_registered.specs.extensions.GetAssertionOutputs.{get_assertion_outputs}
 use Rattle.passkey_registered.specs.extensions.GetAssertionUnsigned.{get_assertion_unsigned}
-use Rattle.passkey_kinds.proofs.Back.{Puts}
 use Rattle.passkey_kinds.proofs.Lists.{map_same}
 use Rattle.passkey_kinds.proofs.Lawful.{IsLawful, IsLawfulAs, lawful}
 use Rattle.passkey_kinds.proofs.Numbered.{code_place, long_back, not_null_around, not_null_back}
@@ -17,7 +16,6 @@ use Rattle.passkey_kinds.proofs.Steps.{IsReadBack, None, Option, anything, arith
 use Rattle.std.proofs.Common.{◌∷◌}
 use Rattle.passkey_kinds.specs.Coded.{byte_map, plain}
 use Rattle.passkey_kinds.specs.Numbered.{AreMessages}
-use Rattle.passkey_kinds.specs.Record.{Member}
 
 -- ---- the extension prf
 
@@ -31,10 +29,6 @@ prf_values_law = lawful 0 prf_values (λ v. refl) (λ v. refl) (λ v. refl) (λ 
     puts_default (optional_place sized_string_back refl v.second (search)) refl ▸
     no_more)
 
--- a name that is never encoded
-never_put : {P : Type 0} {m : Member P} {old : P} → Puts m None old old
-never_put = record { accepted = λ i e. absurd cc; put = refl }
-
 prf_map_back : IsReadBack (byte_map (plain prf_values)).typed.of (byte_map (plain prf_values)).tree
     (byte_map (plain prf_values)).Fits (λ m. m)
 prf_map_back = grind (arith, map_back, prf_values_law, map_values_same)
@@ -45,7 +39,6 @@ prf_inputs_law = lawful 2 prf_inputs (λ i. refl) (λ i. refl) (λ i. refl)
     (λ k i. search (plainly, prf_values_law.plain (suc k), prf_values_law.plain k, map_plain (suc k))) (λ i fits.
     puts_default (optional_place prf_values_law.back refl i.eval (search)) refl ▸
     puts_default (optional_place prf_map_back refl i.eval_by_credential (search)) refl ▸
-    never_put ▸
     no_more)
 
 pub prf_outputs_law : IsLawful 1 prf_outputs

@@ -9,11 +9,12 @@ abbrev pub is_between : ℕ → ℕ → ℕ → Bool
 is_between from to c = nat_le from c && nat_lt c to
 
 -- control characters (C0, DEL and C1), the separators of lines and paragraphs, and what changes the direction of text
+-- (Unicode Standard Annex #9, section 2)
 abbrev pub is_escaped : ℕ → Bool
-is_escaped c = nat_lt c 0x20 || is_between 0x7f 0xa0 c || is_between 0x200e 0x2010 c || is_between 0x2028 0x202f c
-    || is_between 0x2066 0x206a c
+is_escaped c = nat_lt c 0x20 || is_between 0x7f 0xa0 c || c == 0x61c || is_between 0x200e 0x2010 c
+    || is_between 0x2028 0x202f c || is_between 0x2066 0x206a c
 
--- a character's text: quotes, backslashes and line feeds behind a backslash, and the others that are escaped by their code
+-- a character's text: quotes, backslashes and line feeds after a backslash, and the others that are escaped by their code
 abbrev pub char_text : ℕ → List ℕ
 char_text c =
     if c == 34 then 92 ∷ 34 ∷ []

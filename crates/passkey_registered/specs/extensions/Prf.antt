@@ -4,8 +4,7 @@ use Rattle.passkey_registered.specs.declared.extensions.prf.PrfInputs.{PrfInputs
 use Rattle.passkey_registered.specs.declared.extensions.prf.PrfOutputs.{PrfOutputs}
 use Rattle.passkey_registered.specs.declared.extensions.prf.PrfValues.{PrfValues}
 use Rattle.passkey_kinds.specs.Coded.{byte_map, sized_bytes, truth}
-use Rattle.passkey_kinds.specs.Typed.{optional}
-use Rattle.passkey_kinds.specs.Words.{Coded, Placed, PlainTable, byte_string, default, optional_as, placed, plain, required_as, text_string}
+use Rattle.passkey_kinds.specs.Words.{Coded, PlainTable, byte_string, optional_as, optional_as_or, plain, required_as}
 
 -- exactly 32 bytes, encoded as a byte string
 abbrev pub prf_value : Coded (List ℕ)
@@ -19,18 +18,13 @@ prf_values = record {
       ∷ [];
 }
 
--- the salts by credential ids under the name of earlier platforms, which is decoded, and never encoded
-abbrev earlier_name : Placed PrfInputs
-earlier_name = placed (default 3 (codes "eval_by_credential") (optional (byte_map (plain prf_values)).typed)
-    (λ x i. record i { eval_by_credential = x })) (λ i. (text_string (codes "eval_by_credential"), None))
-
+-- the second name of the salts by credential ids is that of earlier platforms
 abbrev pub prf_inputs : PlainTable PrfInputs
 prf_inputs = record {
   blank = record { eval = None; eval_by_credential = None };
   members = optional_as 1 (codes "eval") (plain prf_values) (λ i. i.eval) (λ x i. record i { eval = x })
-      ∷ optional_as 2 (codes "evalByCredential") (byte_map (plain prf_values)) (λ i. i.eval_by_credential)
-      (λ x i. record i { eval_by_credential = x })
-      ∷ earlier_name
+      ∷ optional_as_or 2 (codes "evalByCredential") (codes "eval_by_credential") (byte_map (plain prf_values))
+      (λ i. i.eval_by_credential) (λ x i. record i { eval_by_credential = x })
       ∷ [];
 }
 

@@ -5,7 +5,7 @@ use Rattle.passkey_registered.specs.get_info.Options.{options}
 use Rattle.passkey_registered.specs.declared.get_info.response.Response.{Response}
 use Rattle.passkey_kinds.specs.Coded.{aaguid, accepted_of, bytes, list_of, text, truth}
 use Rattle.passkey_kinds.specs.Numbered.{kept_item, long}
-use Rattle.passkey_kinds.specs.Words.{Placed, PlainTable, byte, optional_at, plain, required_at, tolerated_at}
+use Rattle.passkey_kinds.specs.Words.{Placed, PlainTable, byte, optional_at, optional_at_or, plain, required_at, tolerated_at}
 
 abbrev pub first_members : List (Placed Response)
 first_members =
@@ -14,7 +14,7 @@ first_members =
     ∷ required_at 3 (codes "aaguid") aaguid (λ r. r.aaguid.0) (λ x r. record r { aaguid = (record { 0 = x }) })
     ∷ optional_at 4 (codes "options") (plain options) (λ r. r.options) (λ x r. record r { options = x })
     ∷ optional_at 5 (codes "maxMsgSize") long (λ r. r.max_msg_size) (λ x r. record r { max_msg_size = x })
-    ∷ optional_at 6 (codes "pinProtocols") (list_of byte) (λ r. r.pin_uv_auth_protocols)
+    ∷ optional_at_or 6 (codes "pinUvAuthProtocols") (codes "pinProtocols") (list_of byte) (λ r. r.pin_uv_auth_protocols)
     (λ x r. record r { pin_uv_auth_protocols = x })
     ∷ optional_at 7 (codes "maxCredentialCountInList") long (λ r. r.max_credential_count_in_list)
     (λ x r. record r { max_credential_count_in_list = x })
@@ -27,15 +27,17 @@ middle_members =
     tolerated_at 9 (codes "transports") (accepted_of text) (λ r. r.transports) (λ x r. record r { transports = x })
     ∷ tolerated_at 10 (codes "algorithms") (accepted_of (plain credential_parameters)) (λ r. r.algorithms)
     (λ x r. record r { algorithms = x })
-    ∷ optional_at 11 (codes "maxSerializedLargeBlobArray") long (λ r. r.max_serialized_large_blob_array)
+    ∷ optional_at_or 11 (codes "maxSerializedLargeBlobArray") (codes "macSerializedLargeBlobArray") long (λ r. r.max_serialized_large_blob_array)
     (λ x r. record r { max_serialized_large_blob_array = x })
-    ∷ optional_at 12 (codes "forcePinChange") truth (λ r. r.force_pin_change) (λ x r. record r { force_pin_change = x })
-    ∷ optional_at 13 (codes "minPinLength") long (λ r. r.min_pin_length) (λ x r. record r { min_pin_length = x })
+    ∷ optional_at_or 12 (codes "forcePINChange") (codes "forcePinChange") truth (λ r. r.force_pin_change)
+    (λ x r. record r { force_pin_change = x })
+    ∷ optional_at_or 13 (codes "minPINLength") (codes "minPinLength") long (λ r. r.min_pin_length)
+    (λ x r. record r { min_pin_length = x })
     ∷ optional_at 14 (codes "firmwareVersion") long (λ r. r.firmware_version) (λ x r. record r { firmware_version = x })
     ∷ optional_at 15 (codes "maxCredBlobLength") long (λ r. r.max_cred_blob_length)
     (λ x r. record r { max_cred_blob_length = x })
-    ∷ optional_at 16 (codes "maxRpidsForSetMinPinLength") long (λ r. r.max_rpids_for_set_min_pin_length)
-    (λ x r. record r { max_rpids_for_set_min_pin_length = x })
+    ∷ optional_at_or 16 (codes "maxRPIDsForSetMinPINLength") (codes "maxRpidsForSetMinPinLength") long
+    (λ r. r.max_rpids_for_set_min_pin_length) (λ x r. record r { max_rpids_for_set_min_pin_length = x })
     ∷ optional_at 17 (codes "preferredPlatformUvAttempts") long (λ r. r.preferred_platform_uv_attempts)
     (λ x r. record r { preferred_platform_uv_attempts = x })
     ∷ optional_at 18 (codes "uvModality") long (λ r. r.uv_modality) (λ x r. record r { uv_modality = x })
@@ -63,9 +65,10 @@ abbrev pub newest_members : List (Placed Response)
 newest_members =
     optional_at 27 (codes "pinComplexityPolicy") truth (λ r. r.pin_complexity_policy)
     (λ x r. record r { pin_complexity_policy = x })
-    ∷ optional_at 28 (codes "pinComplexityPolicyUrl") bytes (λ r. r.pin_complexity_policy_url)
-    (λ x r. record r { pin_complexity_policy_url = x })
-    ∷ optional_at 29 (codes "maxPinLength") long (λ r. r.max_pin_length) (λ x r. record r { max_pin_length = x })
+    ∷ optional_at_or 28 (codes "pinComplexityPolicyURL") (codes "pinComplexityPolicyUrl") bytes
+    (λ r. r.pin_complexity_policy_url) (λ x r. record r { pin_complexity_policy_url = x })
+    ∷ optional_at_or 29 (codes "maxPINLength") (codes "maxPinLength") long (λ r. r.max_pin_length)
+    (λ x r. record r { max_pin_length = x })
     ∷ optional_at 30 (codes "encCredStoreState") bytes (λ r. r.enc_cred_store_state)
     (λ x r. record r { enc_cred_store_state = x })
     ∷ optional_at 31 (codes "authenticatorConfigCommands") (list_of byte) (λ r. r.authenticator_config_commands)

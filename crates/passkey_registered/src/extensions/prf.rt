@@ -132,7 +132,7 @@ pub struct PrfInputs {
     /// `eval`: the salts for credentials without salts of their own.
     pub eval: Option<PrfValues>,
     /// `evalByCredential`: the salts for single credentials, by their credential ids. It is also
-    /// decoded under the name `eval_by_credential`; if a map has both names, the later one counts.
+    /// decoded under the name `eval_by_credential`; under both names it is there twice.
     pub eval_by_credential: Option<Map<Bytes, PrfValues>>,
 }
 
@@ -142,8 +142,7 @@ impl PlainRecord for PrfInputs {
     fn rows() -> &'static [Row] {
         &[
             Row::Optional(1, "eval"),
-            Row::Optional(2, "evalByCredential"),
-            Row::Optional(3, "eval_by_credential"),
+            Row::Aliased(2, "evalByCredential", "eval_by_credential"),
         ]
     }
 
@@ -155,7 +154,6 @@ impl PlainRecord for PrfInputs {
         match number {
             1 => set(&mut self.eval, alloc, source),
             2 => set(&mut self.eval_by_credential, alloc, source),
-            3 => set(&mut self.eval_by_credential, alloc, source),
             _ => Err(Refusal::Refused),
         }
     }
@@ -163,7 +161,6 @@ impl PlainRecord for PrfInputs {
     fn put_members<S: Sink>(&self, alloc: Global, sink: &mut S) -> Result<(), OutOfMemory> {
         sink.put_some(alloc, "eval", &self.eval)?;
         sink.put_some(alloc, "evalByCredential", &self.eval_by_credential)?;
-        sink.put_some(alloc, "eval_by_credential", &None::<Map<Bytes, PrfValues>>)?;
         Ok(())
     }
 

@@ -1,7 +1,6 @@
-use Rattle.passkey_kinds.proofs.Common.{find, bytes_eq, ◌≡◌, map, drop, entry_of, Entry}
+use Rattle.passkey_kinds.proofs.Common.{find, ◌≡◌, map, drop, entry_of, goes_by}
 use Rattle.passkey_kinds.proofs.rows.with_name.Given as goal
 
 abbrev pub invariant-loop-row : goal.invariant-loop-row
 invariant-loop-row l =
-    find (λ (e : Entry). bytes_eq e.name l.name) (map entry_of (drop l.row-index l.rows))
-    ≡ find (λ (e : Entry). bytes_eq e.name l.name) (map entry_of l.rows)
+    find (goes_by l.name) (map entry_of (drop l.row-index l.rows)) ≡ find (goes_by l.name) (map entry_of l.rows)

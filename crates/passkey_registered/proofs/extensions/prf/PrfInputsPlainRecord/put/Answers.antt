@@ -22,10 +22,3 @@ returns-in-2-clause-puts g c = λ i to at.
     sets_put (fields_of prf_inputs) seen (optional (map_from_bytes (nested (fields_of prf_values)))) put c.args.number 2 i
     c.set-in-2.new.field old (put c.set-in-2.new.field old) c.set-in-2.result c.in-2.is refl refl refl
     (ap (λ o. put o old) (same c.set-in-2.new.field)) (c.set-in-2.ensures.sets i to at)
-
-pub returns-in-3-clause-puts : goal.returns-in-3-clause-puts
-returns-in-3-clause-puts g c = λ i to at.
-    let old = c.args.self.now in
-    sets_put (fields_of prf_inputs) seen (optional (map_from_bytes (nested (fields_of prf_values)))) put c.args.number 3 i
-    c.set-in-3.new.field old (put c.set-in-3.new.field old) c.set-in-3.result c.in-3.is refl refl refl
-    (ap (λ o. put o old) (same c.set-in-3.new.field)) (c.set-in-3.ensures.sets i to at)
