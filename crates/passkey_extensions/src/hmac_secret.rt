@@ -182,6 +182,8 @@ impl RecordReadBack for HmacGetSecretInput {
 }
 
 impl Message for HmacGetSecretInput {
+    ghost cost = { 5 };
+
     fn read(alloc: Global, cursor: &mut Cursor<'_>) -> Result<HmacGetSecretInput, Fault> {
         HmacGetSecretInput::read(alloc, cursor)
     }

@@ -1,4 +1,5 @@
 pub mod Common
+pub mod Counting
 pub mod Cursor
 pub mod Lent
 pub mod Lists

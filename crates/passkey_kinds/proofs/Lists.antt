@@ -73,12 +73,12 @@ kept_none o = grind (arith, kept_nothing)
 pub kept_elements_in : (keeps : Keeping) (i : Item)
     → kept_parts (kept_of keeps) (elements_in i) ≡ kept_of (in_elements keeps) i
 kept_elements_in nothing i = kept_none (elements_in i)
-kept_elements_in (counted count) i = grind arith
+kept_elements_in (counted most least) i = grind arith
 
 pub kept_members_in : (keeps : Keeping) (i : Item)
     → kept_parts (λ m. kept_of keeps m.1) (members_in i) ≡ kept_of (in_members keeps) i
 kept_members_in nothing i = kept_none (members_in i)
-kept_members_in (counted count) i = grind arith
+kept_members_in (counted most least) i = grind arith
 
 -- the first byte costs one head alone
 pub after_head : (cost kept to : ℕ) (a b d : CursorState) → a.place < b.place → b.heads ≤ a.heads + 1

@@ -1,5 +1,9 @@
 -- Laws of records and messages.
 use Rattle.passkey_kinds.proofs.Common.{front_stands, raised, heads_of, only_one, IsEncodedAt, Grows, Item, no_pairs, pair, members, AtMostOneLeadingItem, IsLeadingItem, PassesLeadingItem, CursorState, ahead, MovesForward, members-pairs_of, ReadsMessage, Begins, GrowsMessage, ReadsHere, AlikeDifferInLength, SameButForLength, AnswersCarryOver, KnowsItems, known, HasNoWrongKey, AnswersAlike, SameAnswers, PassesOverUnknown, KnowsMaps, Onward, Reads, MayGrowAt, Fields, table_of, one_more, Progress, result_and_then, read_from, read_members, read_item, Table, named, Members, Naming, row, unknown, wrong, record_cost, DecodesRecord, Fault, ◌≡◌, ◌∙◌, ◌+◌, ℕ, suc, arith, List, [], ◌∷◌, ◌++◌, length, refl, sym, ap, rules, ◌≤◌, Result, ◌*◌, subst, take, Ok, Err, ◌≢◌, IfErr, All-head, All-tail}
+use Rattle.passkey_kinds.proofs.Counting.{least_then}
+use Rattle.passkey_kinds.specs.Kind.{CountsLeast, Least}
+use Rattle.passkey_kinds.specs.Message.{least_here}
+use Rattle.passkey_kinds.specs.RecordReading.{least_in_map}
 use Rattle.passkey_kinds.specs.declared.fault.Fault.TheVariants as fault
 use Rattle.passkey_cbor.specs.Item as item
 
@@ -170,6 +174,19 @@ module _ {A P : Type 0} (view : A → P) (t : Fields P) (old s a b : CursorState
   counted_here i len f = subst (λ (n : ℕ). raised old.heads (heads_of (take n (ahead old))) ≤ b.heads)
       (sym (only i len f).1) (omega (arith, p.counted, back.heads, on.heads))
 
+  -- and what the message keeps when it was decoded
+  kept_here : CountsLeast (least_in_map t p.item) a b → (i : Item) (len : ℕ) → IsLeadingItem (ahead old) i len
+      → CountsLeast (least_here t i (take len (ahead old))) old b
+  kept_here counts i len f =
+      let own : Least = record { heads = heads_of (take len (ahead old)); nodes = 0 } in
+      let first : CountsLeast own old a = record {
+        heads = subst (λ (n : ℕ). raised old.heads (heads_of (take n (ahead old))) ≤ a.heads) (sym (only i len f).1)
+            (omega (arith, p.counted, back.heads));
+        nodes = omega (arith, skipped.nodes, back.nodes);
+      } in
+      least_then own (least_in_map t i) first
+      (subst (λ (j : Item). CountsLeast (least_in_map t j) a b) (sym (only i len f).0) counts)
+
   -- what the code ensures of the item here
   abbrev Reading : Result A Fault → Type 0
   Reading result = (i : Item) (to : ℕ) → IsEncodedAt i a.bytes a.place to → DecodesRecord view t i to a b result
@@ -179,7 +196,8 @@ module _ {A P : Type 0} (view : A → P) (t : Fields P) (old s a b : CursorState
       let d = reads p.item (old.place + p.len) item_stands in
       let heads = heads_here (Ok message) d in
       let all = counted_here in
-      grind (arith, only, heads, all, skipped, back, on, p, d)
+      let counts = kept_here d.counts in
+      grind (arith, only, heads, all, counts, skipped, back, on, p, d)
 
   grows_there : (e : Fault) → Reads view (MayGrowAt (table_of t) p.item) (read_item t p.item) (Err e)
       → ◌≡◌ {A = Result A Fault} (Err e) (Err fault.OutOfMemory) → GrowsMessage t (ahead old)
@@ -196,4 +214,6 @@ module _ {A P : Type 0} (view : A → P) (t : Fields P) (old s a b : CursorState
       let told = message_fails view (table_of t) (read_item t) (ahead old) p.item p.len e p.front d.answers in
       let grows = grows_there e d.answers in
       let all = counted_here in
-      grind (arith, only, all, inside, told, grows, same, at, skipped, p, back, on, d)
+      let heads : (i : Item) (len : ℕ) → IsLeadingItem (ahead old) i len → c.heads ≤ old.heads + suc (record_cost t) * len =
+      λ i len f. omega (arith, ap (λ (w : CursorState). w.heads) same, heads_here (Err e) d i len f) in
+      grind (arith, only, heads, all, inside, told, grows, same, at, skipped, p, back, on, d)

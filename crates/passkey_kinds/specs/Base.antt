@@ -10,7 +10,8 @@ pub use Rattle.passkey_cbor.specs.LeadingItem.{IsLeadingItem, max_depth}
 pub use Rattle.passkey_cbor.specs.Lent.{IsRegion, HoldsString}
 pub use Rattle.passkey_cbor.specs.View.{pair_of, item_of}
 pub use Rattle.passkey_cbor.specs.HeadCount.{CountsHeads, heads_of}
-pub use Rattle.passkey_cbor.specs.CursorState.{CursorState, LooksOnce}
+pub use Rattle.passkey_cbor.specs.CursorState.{CursorState, LooksOnce, raised}
+pub use Rattle.passkey_cbor.specs.Nodes.{nodes}
 pub use Rattle.passkey_cbor.specs.Writable.{IsWritable}
 pub use Rattle.passkey_cbor.specs.Written.{written}
 pub use Rattle.passkey_core.specs.Coherent.{is_coherent}

@@ -2,8 +2,7 @@
 use Rattle.passkey_kinds.specs.Base.{ByteMap, Item, boolean, byte_string, text_string, credential_type_named, transport_named, IfPresent, IsData, DataParts, Algorithm, AuthenticatorTransport, Unknown, PublicKeyCredentialDescriptor, PublicKeyCredentialParameters, PublicKeyCredentialUserEntity}
 use Rattle.std.specs.Prelude.{◌≡◌, ℕ, ◌<◌, ◌^◌, Bool, List, length, Option, [], ◌∷◌, None, codes}
 use Rattle.passkey_iana.specs.declared.algorithm.Algorithm.TheVariants.{ES256}
-use Rattle.passkey_cbor.specs.Nodes.{nodes}
-use Rattle.passkey_kinds.specs.Kind.{aaguid_from, algorithm_from, algorithm_tree, any_from, auth_data_tree, authenticator_data_nodes, bytes_from, counted, data_from, nothing, sized_bytes_from, text_from, truth_from}
+use Rattle.passkey_kinds.specs.Kind.{aaguid_from, algorithm_from, algorithm_tree, any_from, auth_data_tree, bytes_from, data_from, keeps_data, keeps_item, nothing, sized_bytes_from, text_from, truth_from}
 use Rattle.passkey_kinds.specs.Placed.{Coded, PlainTable, EachFits, fields_of, plain_tree, Any, AreBytes, IsByte, required_as, tolerated_as, optional_as}
 use Rattle.passkey_kinds.specs.RecordReading.{nested}
 use Rattle.passkey_kinds.specs.Tree.{number_tree, option_tree, list_tree, numbers_tree, byte_map_tree, credential_type_tree, transport_tree}
@@ -66,14 +65,14 @@ transport = record { typed = typed.one_named transport_named; tree = transport_t
 
 abbrev pub authenticator_data : Coded DataParts
 authenticator_data = record {
-  typed = growing 6 (counted authenticator_data_nodes) wanted.AuthenticatorData data_from;
+  typed = growing 6 keeps_data wanted.AuthenticatorData data_from;
   tree = auth_data_tree;
   Fits = IsData;
 }
 
 -- any item, unchanged
 abbrev pub item : Coded Item
-item = record { typed = growing 2 (counted nodes) wanted.Any any_from; tree = λ i. i; Fits = Any }
+item = record { typed = growing 2 keeps_item wanted.Any any_from; tree = λ i. i; Fits = Any }
 
 -- `None` is encoded as null
 abbrev pub or_null : {M : Type 0} → Coded M → Coded (Option M)

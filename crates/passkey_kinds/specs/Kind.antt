@@ -1,5 +1,5 @@
 -- Kinds: what data items decode to, and how many data items a decoded value keeps.
-use Rattle.passkey_kinds.specs.Base.{Item, elements, members, text_bytes, Grows, number, text_string, byte_string, array, boolean, null, algorithm_number, algorithm_named, Algorithm, signed_64, whole_64, CursorState, data_heads, data_nodes, DataParts, data_parts}
+use Rattle.passkey_kinds.specs.Base.{Item, elements, members, text_bytes, Grows, number, text_string, byte_string, array, boolean, null, algorithm_number, algorithm_named, Algorithm, signed_64, whole_64, CursorState, raised, nodes, data_heads, data_nodes, DataParts, data_parts}
 use Rattle.std.specs.Prelude.{ℕ, ◌+◌, ◌-◌, min, List, [], ◌∷◌, ◌≡◌, ◌==◌, pos, nat_lt, length, Bool, IsTrue, if◌then◌else◌, Option, Some, None, is_some, option_map, unwrap_or, Result, Ok, Err, ◌*◌, ◌≤◌, map as each_one, ◌^◌, ◌<◌, ◌&&◌}
 use Rattle.passkey_bytes.specs.Map.{ByteMap, put_each}
 use Rattle.passkey_kinds.specs.Shape.{Shape}
@@ -16,16 +16,65 @@ use Rattle.std.specs.Str.{trim}
 use Rattle.std.specs.FinMap as fin
 use Rattle.passkey_cbor.specs.Item as item
 
--- ---- how many data items decoding makes as values at most: none, or this many for an item
+-- ---- what decoding counts at least
+
+-- so many heads and data items
+pub record Least : Type 0 where
+  pub heads : ℕ
+  pub nodes : ℕ
+
+abbrev pub no_least : Least
+no_least = record { heads = 0; nodes = 0 }
+
+abbrev pub least_and : Least → Least → Least
+least_and x y = record { heads = x.heads + y.heads; nodes = x.nodes + y.nodes }
+
+-- the sum for each of these
+abbrev pub least_sum : {X : Type 0} → (X → Least) → List X → Least
+least_sum least [] = no_least
+least_sum least (x ∷ xs) = least_and (least x) (least_sum least xs)
+
+-- the sum for the elements of an array
+abbrev pub least_elements : (Item → Least) → Item → Least
+least_elements least (item.array xs) = least_sum least (elements xs)
+least_elements least _ = no_least
+
+-- the sum for the values of a map
+abbrev pub least_members : (Item → Least) → Item → Least
+least_members least (item.map ps) = least_sum (λ m. least m.1) (members ps)
+least_members least _ = no_least
+
+-- for null nothing is decoded
+abbrev pub least_unless_null : (Item → Least) → Item → Least
+least_unless_null least null = no_least
+least_unless_null least i = least i
+
+-- The cursor counted at least so many heads and data items.
+pub record CountsLeast (least : Least) (old new : CursorState) : Type 0 where
+  pub heads : raised old.heads least.heads ≤ new.heads
+  pub nodes : raised old.nodes least.nodes ≤ new.nodes
+
+-- ---- how many data items decoding makes as values: none; or at most so many for an item, and what is
+-- counted at least if the item is accepted: these data items, and the heads that are decoded in them
+-- by a cursor of their own
 
 pub data Keeping : Type 0 where
   nothing : Keeping
-  counted : (Item → ℕ) → Keeping
+  counted : (Item → ℕ) → (Item → Least) → Keeping
 
--- how many it is for this item
+-- how many it is at most for this item
 abbrev pub kept_of : Keeping → Item → ℕ
 kept_of nothing i = 0
-kept_of (counted count) i = count i
+kept_of (counted most least) i = most i
+
+-- what is counted at least for this item
+abbrev pub least_of : Keeping → Item → Least
+least_of nothing i = no_least
+least_of (counted most least) i = least i
+
+abbrev pub CountsKept : Keeping → Item → CursorState → CursorState → Type 0
+CountsKept nothing i old new = Unit {0}
+CountsKept (counted most least) i old new = CountsLeast (least i) old new
 
 -- the sum for each of these
 abbrev pub kept_sum : {X : Type 0} → (X → ℕ) → List X → ℕ
@@ -44,11 +93,16 @@ kept_members count _ = 0
 
 abbrev pub in_elements : Keeping → Keeping
 in_elements nothing = nothing
-in_elements (counted count) = counted (kept_elements count)
+in_elements (counted most least) = counted (kept_elements most) (least_elements least)
 
 abbrev pub in_members : Keeping → Keeping
 in_members nothing = nothing
-in_members (counted count) = counted (kept_members count)
+in_members (counted most least) = counted (kept_members most) (least_members least)
+
+-- null is decoded without the kind
+abbrev pub unless_null : Keeping → Keeping
+unless_null nothing = nothing
+unless_null (counted most least) = counted most (least_unless_null least)
 
 -- ---- kinds: what data items decode to. A kind accepts some items and has a value for each of them
 
@@ -82,6 +136,11 @@ pub record Typed (M : Type 0) : Type 0 where
 -- whether the kind has a value for the item
 abbrev pub accepts : {M : Type 0} → Typed M → Item → Bool
 accepts k i = is_some (k.of i)
+
+-- an item that the kind refuses may be decoded in part
+abbrev pub if_accepted : {M : Type 0} → Kind M → Keeping → Keeping
+if_accepted kind nothing = nothing
+if_accepted kind (counted most least) = counted most (λ i. if is_some (kind i) then least i else no_least)
 
 -- the result of decoding an item
 abbrev pub Answers : {A M : Type 0} → (A → M) → Typed M → Item → Result A Refusal → Type 0
@@ -173,6 +232,18 @@ data_from _ = None
 abbrev pub authenticator_data_nodes : Item → ℕ
 authenticator_data_nodes (byte_string s) = data_nodes s
 authenticator_data_nodes _ = 0
+
+-- these data items, and their heads
+abbrev pub authenticator_data_least : Item → Least
+authenticator_data_least (byte_string s) = record { heads = data_heads s; nodes = data_nodes s }
+authenticator_data_least _ = no_least
+
+abbrev pub keeps_data : Keeping
+keeps_data = counted authenticator_data_nodes authenticator_data_least
+
+-- the item itself
+abbrev pub keeps_item : Keeping
+keeps_item = counted nodes (λ i. record { heads = 0; nodes = nodes i })
 
 abbrev pub auth_data_tree : DataParts → Item
 auth_data_tree d = byte_string (data_written d)

@@ -1,15 +1,15 @@
 -- Decoding messages from bytes, and laws about messages and records.
 use Rattle.passkey_kinds.specs.Base.{IsWritable, written, array, items_of, heads_of}
-use Rattle.std.specs.Prelude.{ℕ, List, ◌++◌, codes, ◌≡◌, ◌+◌, ◌-◌, ◌*◌, ◌≤◌, length, take, Result, Ok, Err, OnErr, ◌≢◌, [], ◌∷◌, Bool, true, ◌↔◌, Option, Some, None}
+use Rattle.std.specs.Prelude.{ℕ, List, ◌++◌, codes, ◌≡◌, ◌+◌, ◌-◌, ◌*◌, ◌≤◌, length, take, Result, Ok, Err, OnErr, OnOk, ◌≢◌, [], ◌∷◌, Bool, true, ◌↔◌, Option, Some, None}
 use Rattle.passkey_cbor.specs.Canonical.{IsCanonical}
 use Rattle.passkey_cbor.specs.HeadsDecoded.{heads_decoded}
 use Rattle.passkey_cbor.specs.Item.{Item, Pairs, map}
 use Rattle.passkey_cbor.specs.LeadingItem.{IsLeadingItem, HasNoLeadingItem}
 use Rattle.passkey_cbor.specs.Reads.{HasGrowingLeadingItem}
 use Rattle.passkey_cbor.specs.CursorState.{CursorState, ahead, raised, MovesForward}
-use Rattle.passkey_kinds.specs.Kind.{Kind, accepted_from}
+use Rattle.passkey_kinds.specs.Kind.{CountsLeast, Kind, Least, accepted_from, least_and}
 use Rattle.passkey_kinds.specs.Record.{MayGrowAt, Fields, read_item, table_of, rows_of, put_at, read_members, Table, Naming, row, unknown, wrong, named, Members, accepts_at}
-use Rattle.passkey_kinds.specs.RecordReading.{kept_in_map}
+use Rattle.passkey_kinds.specs.RecordReading.{kept_in_map, least_in_map}
 use Rattle.passkey_kinds.specs.Tree.{map_tree}
 use Rattle.passkey_kinds.specs.declared.fault.Fault.{Fault}
 use Rattle.passkey_kinds.specs.declared.fault.Fault.TheVariants.{OutOfMemory, DecodeFailed, NotAMap}
@@ -59,12 +59,18 @@ abbrev pub with_length : {A : Type 0} → CursorState → CursorState → Result
 with_length old new (Ok message) = Ok (message, new.place - old.place)
 with_length old new (Err e) = Err e
 
+-- what is counted at least for a message: all heads of its item, and what the table keeps
+abbrev pub least_here : {P : Type 0} → Fields P → Item → List ℕ → Least
+least_here t i bytes = least_and (record { heads = heads_of bytes; nodes = 0 }) (least_in_map t i)
+
 -- Decoding a message at a cursor. The result is that of decoding the bytes ahead. The cursor moves
 -- past the message, or stays if there is an error. If the bytes ahead have a leading data item, each
 -- of its heads is counted at least once, at most `cost` heads are counted for each of its bytes, and
 -- at most the data items that the table keeps are made as values. Otherwise each head that is decoded
 -- up to the fault is counted, at most one for each byte, and one more, and no values are made. At
--- least one head is counted. The counts include what was spent, whatever the result.
+-- least one head is counted. The counts include what was spent, whatever the result. After a success
+-- the data items that the message keeps are counted, and those of authenticator data with their heads,
+-- which are counted beside the item's.
 pub record ReadsHere {A P : Type 0} (view : A → P) (t : Fields P) (cost : ℕ) (old new : CursorState)
     (result : Result A Fault) : Type 0 where
   pub reads : ReadsMessage view (read_item t) (ahead old) (with_length old new result)
@@ -76,6 +82,8 @@ pub record ReadsHere {A P : Type 0} (view : A → P) (t : Fields P) (cost : ℕ)
       → raised old.heads (heads_of (take len (ahead old))) ≤ new.heads
   pub heads : (i : Item) (len : ℕ) → IsLeadingItem (ahead old) i len → new.heads ≤ old.heads + cost * len
   pub nodes : (i : Item) (len : ℕ) → IsLeadingItem (ahead old) i len → new.nodes ≤ old.nodes + kept_in_map t i
+  pub counts : OnOk result ((i : Item) (len : ℕ) → IsLeadingItem (ahead old) i len
+      → CountsLeast (least_here t i (take len (ahead old))) old new)
   pub decoded : HasNoLeadingItem (ahead old) → new.heads ≡ raised old.heads (heads_decoded (ahead old))
   pub few_heads : HasNoLeadingItem (ahead old) → new.heads ≤ old.heads + length (ahead old) + 1
   pub no_nodes : HasNoLeadingItem (ahead old) → new.nodes ≡ old.nodes

@@ -3,8 +3,7 @@ use Rattle.passkey_kinds.specs.Base.{Item, null, depth, max_depth, IsLeadingItem
 use Rattle.std.specs.Prelude.{◌≡◌, ℕ, ◌<◌, ◌^◌, Bool, true, false, nat_le, List, [], ◌∷◌, length, ◌++◌, Ok, nat_eq, unwrap_or, Option, Some, None, option_map}
 use Rattle.passkey_iana.specs.Table.{numbered as numbered_value}
 use Rattle.passkey_cbor.specs.Laws.{AtMostOneLeadingItem, WrittenIsLeadingItem}
-use Rattle.passkey_cbor.specs.Nodes.{nodes}
-use Rattle.passkey_kinds.specs.Kind.{Kind, Typed, counted}
+use Rattle.passkey_kinds.specs.Kind.{Kind, Typed, keeps_item}
 use Rattle.passkey_kinds.specs.Kind as kind
 use Rattle.passkey_kinds.specs.declared.wanted.Wanted.TheVariants as wanted
 use Rattle.passkey_kinds.specs.Message.{ReadIsCoherent, WrittenIsCanonical, kept_if_some}
@@ -46,7 +45,7 @@ not_null null = None
 not_null i = Some i
 
 abbrev pub kept_item : Coded Item
-kept_item = record { typed = growing 2 (counted nodes) wanted.NotNull not_null; tree = λ i. i; Fits = IsNotNull }
+kept_item = record { typed = growing 2 keeps_item wanted.NotNull not_null; tree = λ i. i; Fits = IsNotNull }
 
 -- ---- records that one table defines, whose members have names alone, or numbers too
 

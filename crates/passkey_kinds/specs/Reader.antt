@@ -7,7 +7,7 @@ use Rattle.passkey_cbor.specs.Inside.{Left, Within, PairWithin}
 use Rattle.passkey_cbor.specs.Languages.{Language}
 use Rattle.passkey_cbor.specs.Lent.{Region}
 use Rattle.passkey_cbor.specs.declared.head.Head.{Head}
-use Rattle.passkey_kinds.specs.Kind.{Keeping, nothing, kept_of, kept_sum, Typed, AnswersAs, MayGrow, Kind, number_from, each, entry}
+use Rattle.passkey_kinds.specs.Kind.{CountsKept, CountsLeast, Keeping, Least, if_accepted, least_of, least_sum, no_least, nothing, kept_of, kept_sum, Typed, AnswersAs, MayGrow, Kind, number_from, each, entry}
 use Rattle.passkey_kinds.specs.declared.fault.Refusal.{Refusal}
 use Rattle.std.proofs.Math.Nat.{mul-le-mul_left}
 use Rattle.std.specs.List.{cons_option}
@@ -59,10 +59,11 @@ ReadsAs view k i to old new result = Decodes view (k.of i) (MayGrow k.takes i) k
     new result
 
 -- Decoding the item, which ends at `to`, has at most this cost; after a success the cursor is at
--- `to`.
+-- `to`, and what is kept was counted.
 pub record Costs (cost : ℕ) (keeps : Keeping) (i : Item) (to : ℕ) (old new : CursorState) (ok : Bool) : Type 0 where
   pub spends : Spends cost (kept_of keeps i) to old new
   pub ends : ok ≡ true → new.place ≡ to
+  pub counts : ok ≡ true → CountsKept keeps i old new
 
 -- ---- looking at a string again
 
@@ -139,11 +140,13 @@ costs_nothing cost keeps i to s l = record {
     nodes = omega arith;
   };
   ends = λ e. absurd cc;
+  counts = λ e. absurd cc;
 }
 
 pub costs_at_most : (cost : ℕ) (keeps : Keeping) (i : Item) (to : ℕ) (s e : CursorState) → Costs cost keeps i to s e true
     → Costs cost keeps i to s e false
-costs_at_most cost keeps i to s e spent = record { spends = spent.spends; ends = λ h. absurd cc }
+costs_at_most cost keeps i to s e spent =
+    record { spends = spent.spends; ends = λ h. absurd cc; counts = λ h. absurd cc }
 
 pub onward_same : (a : CursorState) → Onward a a
 onward_same a =
@@ -158,8 +161,8 @@ collected next (x ∷ xs) v = option_and_then (λ w. collected next xs w) (next 
 
 -- A way of putting elements together: the elements of an item, and their encodings; what one more
 -- makes of the value, if it isn't refused; whether decoding an element may take memory; the most heads
--- that it decodes for each byte of the element; the data items that it makes as values at most; and
--- that an item with an element takes memory, and that a list goes from one element to the next.
+-- that it decodes for each byte of the element; the data items that it makes as values at most; what it
+-- counts at least if it isn't refused; and that an item with an element takes memory, and that a list goes from one element to the next.
 pub record Way (X V : Type 0) : Type 1 where
   pub parts : Item → Option (List X)
   pub Encoded : X → Language
@@ -167,6 +170,7 @@ pub record Way (X V : Type 0) : Type 1 where
   pub takes : Bool
   pub cost : ℕ
   pub kept : X → ℕ
+  pub least : X → Least
   pub grows : (i : Item) (xs : List X) → parts i ≡ Some xs → 0 < length xs → Grows i
   pub walked : (before after : Option ℕ) (old new : CursorState) (found : Bool) → WalksOn before after old new found
       → Walks Encoded before after old new found
@@ -177,11 +181,17 @@ pub record AddsOne {X V : Type 0} (w : Way X V) (x : X) (before after : V) (to :
   pub answers : AnswersAs (λ _. after) (w.next x before) (IsTrue w.takes) result
   pub spends : SpendsLess (suc w.cost) (w.kept x) to old new
   pub ends : OnOk result (new.place ≡ to)
+  pub counts : OnOk result (CountsLeast (w.least x) old new)
 
 -- the data items that are made as values at most for all of them
 abbrev pub kept_parts : {X : Type 0} → (X → ℕ) → Option (List X) → ℕ
 kept_parts kept None = 0
 kept_parts kept (Some xs) = kept_sum kept xs
+
+-- what is counted at least for all of them
+abbrev pub least_parts : {X : Type 0} → (X → Least) → Option (List X) → Least
+least_parts least None = no_least
+least_parts least (Some xs) = least_sum least xs
 
 -- Decoding an item whose elements are put together from this value on. The first byte costs one head
 -- alone.
@@ -190,6 +200,7 @@ pub record Collects {C X V : Type 0} (value : C → V) (w : Way X V) (v : V) (i 
   pub decodes : Decodes value (option_and_then (λ xs. collected w.next xs v) (w.parts i)) (MayGrow w.takes i)
       (suc w.cost) (kept_parts w.kept (w.parts i)) to old new result
   pub heads : new.heads + suc w.cost * suc old.place ≤ suc old.heads + suc w.cost * to
+  pub counts : OnOk result (CountsLeast (least_parts w.least (w.parts i)) old new)
 
 pub grows_elements : (i : Item) (xs : List Item) → elements_in i ≡ Some xs → 0 < length xs → Grows i
 grows_elements i xs e some = grind arith
@@ -213,6 +224,7 @@ in_array g = record {
   takes = g.takes;
   cost = g.cost;
   kept = kept_of g.keeps;
+  least = least_of g.keeps;
   grows = grows_elements;
   walked = λ before after old new found walks. walks.items;
 }
@@ -229,7 +241,8 @@ abbrev pub pushed_if : {M : Type 0} → Kind M → Item → List M → Option (L
 pushed_if kind i xs = Some (xs ++ cons_option (kind i) [])
 
 abbrev pub pushing_if : {M : Type 0} → Typed M → Gathering (List M)
-pushing_if k = record { next = pushed_if k.of; takes = true; cost = suc k.cost; keeps = k.keeps }
+pushing_if k =
+    record { next = pushed_if k.of; takes = true; cost = suc k.cost; keeps = if_accepted k.of k.keeps }
 
 -- behind the others, of which there are fewer than n
 abbrev pub pushed_below : {M : Type 0} → ℕ → Kind M → Item → List M → Option (List M)
@@ -259,6 +272,7 @@ entering k = record {
   takes = true;
   cost = max 3 k.cost;
   kept = λ m. kept_of k.keeps m.1;
+  least = λ m. least_of k.keeps m.1;
   grows = grows_members;
   walked = λ before after old new found walks. walks.pairs;
 }

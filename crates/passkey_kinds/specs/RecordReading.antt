@@ -1,7 +1,7 @@
 -- Decoding a record over a cursor: its cost and its steps.
 use Rattle.passkey_kinds.specs.Base.{Item, members, CursorState}
-use Rattle.std.specs.Prelude.{ℕ, ◌+◌, ◌/◌, ◌≤◌, max, ◌==◌, Bool, true, false, ◌&&◌, if◌then◌else◌, List, [], ◌∷◌, ◌≡◌, Option, Some, None, Result, Ok, Err, IfSome, OnOk, slice_get}
-use Rattle.passkey_kinds.specs.Kind.{Keeping, nothing, counted, kept_of, kept_sum, Typed, MayGrow, accepts}
+use Rattle.std.specs.Prelude.{ℕ, ◌+◌, ◌≤◌, max, ◌==◌, Bool, true, false, ◌&&◌, if◌then◌else◌, List, [], ◌∷◌, ◌≡◌, Option, Some, None, Result, Ok, Err, IfSome, OnOk, slice_get, ◌/◌}
+use Rattle.passkey_kinds.specs.Kind.{CountsLeast, Keeping, Least, least_of, least_sum, no_least, nothing, counted, kept_of, kept_sum, Typed, MayGrow, accepts}
 use Rattle.passkey_kinds.specs.Reader.{Spends, SpendsLess}
 use Rattle.passkey_kinds.specs.Record.{takes_at, MayGrowIn, MayGrowAt, Reads, entry, naming_of, named_as, Fields, Member, table_of, record_kind, rows_of, put_at, read_members, read_from, progress_of, Progress, one_more, MayGrowBy, read_item, Naming, row, unknown, wrong, named, Members, accepts_at, Entry, row_or_unknown}
 use Rattle.passkey_kinds.specs.Shape.{Shape, Rows, record_of, no_rows}
@@ -53,16 +53,24 @@ abbrev pub kept_in_map : {P : Type 0} → Fields P → Item → ℕ
 kept_in_map t (item.map ps) = kept_in t (members ps)
 kept_in_map t _ = 0
 
+-- what is counted at least for these members, if they make a record
+abbrev pub least_in : {P : Type 0} → Fields P → Members → Least
+least_in t ms = least_sum (λ m. least_of (keeps_by t.rows (named (table_of t) m.0)) m.1) ms
+
+abbrev pub least_in_map : {P : Type 0} → Fields P → Item → Least
+least_in_map t (item.map ps) = least_in t (members ps)
+least_in_map t _ = no_least
+
 abbrev pub keeps_nothing : Keeping → Bool
 keeps_nothing nothing = true
-keeps_nothing (counted count) = false
+keeps_nothing (counted most least) = false
 
 abbrev pub none_keeps : {P : Type 0} → List (Member P) → Bool
 none_keeps [] = true
 none_keeps (m ∷ ms) = keeps_nothing m.kind.keeps && none_keeps ms
 
 abbrev pub record_keeps : {P : Type 0} → Fields P → Keeping
-record_keeps t = if none_keeps t.rows then nothing else counted (kept_in_map t)
+record_keeps t = if none_keeps t.rows then nothing else counted (kept_in_map t) (least_in_map t)
 
 -- ---- its shape
 
@@ -140,6 +148,7 @@ pub record DecodesRecord {A P : Type 0} (view : A → P) (t : Fields P) (i : Ite
   pub answers : Reads view (MayGrowAt (table_of t) i) (read_item t i) result
   pub spends : Spends (record_cost t) (kept_in_map t i) to old new
   pub ends : OnOk result (new.place ≡ to)
+  pub counts : OnOk result (CountsLeast (least_in_map t i) old new)
 
 -- The same for one member, by what its map key names.
 pub record DecodesMember {P : Type 0} (t : Fields P) (naming : Naming) (m : Item × Item) (before after : Progress P)
@@ -147,6 +156,7 @@ pub record DecodesMember {P : Type 0} (t : Fields P) (naming : Naming) (m : Item
   pub answers : Reads (λ _. after) (MayGrowBy (table_of t) naming m.1) (one_more t naming m.1 before) result
   pub spends : SpendsLess (record_cost t) (kept_of (keeps_by t.rows naming) m.1) to old new
   pub ends : OnOk result (new.place ≡ to)
+  pub counts : OnOk result (CountsLeast (least_of (keeps_by t.rows naming) m.1) old new)
 
 -- The same for the members that follow a map's head.
 pub record DecodesMembers {A P : Type 0} (view : A → P) (t : Fields P) (ms : Members) (to : ℕ) (old new : CursorState)
@@ -154,6 +164,7 @@ pub record DecodesMembers {A P : Type 0} (view : A → P) (t : Fields P) (ms : M
   pub answers : Reads view (MayGrowIn (table_of t) ms) (read_members t ms) result
   pub spends : Spends (record_cost t) (kept_in t ms) to old new
   pub ends : OnOk result (new.place ≡ to)
+  pub counts : OnOk result (CountsLeast (least_in t ms) old new)
 
 -- The result for a record inside another one: each fault but `OutOfMemory` becomes `Refused`.
 abbrev pub as_nested : {A : Type 0} → Result A Fault → Result A Refusal

@@ -1,7 +1,7 @@
 -- Kinds with their costs.
 use Rattle.std.specs.Prelude.{ℕ, suc, max, true, false, List, Option}
 use Rattle.passkey_kinds.specs.Base.{ByteMap}
-use Rattle.passkey_kinds.specs.Kind.{Keeping, nothing, counted, in_elements, in_members, Kind, Typed, accepts}
+use Rattle.passkey_kinds.specs.Kind.{Keeping, nothing, in_elements, in_members, unless_null, if_accepted, Kind, Typed, accepts}
 use Rattle.passkey_kinds.specs.Shape.{Shape, leaf}
 use Rattle.passkey_kinds.specs.declared.wanted.Wanted.{Wanted}
 use Rattle.passkey_kinds.specs.Kind as kind
@@ -47,7 +47,7 @@ optional k = record {
   of = kind.optional_from k.of;
   takes = k.takes;
   cost = suc (max 1 k.cost);
-  keeps = k.keeps;
+  keeps = unless_null k.keeps;
   shape = k.shape;
 }
 
@@ -57,14 +57,18 @@ tolerated k = record {
   of = kind.tolerated_from k.of;
   takes = k.takes;
   cost = suc k.cost;
-  keeps = k.keeps;
+  keeps = if_accepted k.of k.keeps;
   shape = tolerant_shape k;
 }
 
 -- the value, or this default if the kind refuses the item
 abbrev pub or_else : {M : Type 0} → M → Typed M → Typed M
-or_else default k =
-    record k { of = kind.or_else_from default k.of; cost = suc k.cost; shape = tolerant_shape k }
+or_else default k = record k {
+  of = kind.or_else_from default k.of;
+  cost = suc k.cost;
+  keeps = if_accepted k.of k.keeps;
+  shape = tolerant_shape k;
+}
 
 abbrev pub list : {M : Type 0} → Typed M → Typed (List M)
 list k = record {
@@ -81,7 +85,7 @@ accepted k = record {
   of = kind.accepted_from k.of;
   takes = true;
   cost = suc (suc k.cost);
-  keeps = in_elements k.keeps;
+  keeps = in_elements (if_accepted k.of k.keeps);
   shape = list_shape (tolerated k);
 }
 

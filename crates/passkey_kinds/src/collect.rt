@@ -1,6 +1,6 @@
 //! Elements of arrays and members of maps, decoded one after the other at a cursor.
 ghost use Rattle.std.specs.Prelude.{◌<◌, ◌≤◌, ◌+◌, ℕ, suc, IsTrue, List, length, map, is_ok, IfSome, None, OnOk};
-ghost use Rattle.passkey_kinds.specs.Words.{CountsHeads, Item, item_of, AnswersAs, IsEncodedAt, kept_sum, Decodes, Spends, Further, Onward, OpensAt, Gathering, in_array, Way, AddsOne, Collects, collected};
+ghost use Rattle.passkey_kinds.specs.Words.{CountsHeads, Item, item_of, AnswersAs, CountsLeast, IsEncodedAt, kept_sum, least_sum, Decodes, Spends, Further, Onward, OpensAt, Gathering, in_array, Way, AddsOne, Collects, collected};
 ghost use Rattle.passkey_cbor.specs.EncodedAt.{Lies};
 ghost use Rattle.passkey_cbor.specs.Inside.{Left};
 
@@ -107,6 +107,9 @@ fn read_all<C: Collect>(
         (suc C.way.cost) (kept_sum C.way.kept xs) to cursor.old cursor.new result }
     ensures onward { Onward cursor.old cursor.new }
     ensures counts { OnOk result (CountsHeads cursor.old cursor.new) }
+    ensures least { (xs : List C.Element) (to : ℕ)
+        → Lies (Left C.way.Encoded left xs) cursor.old.bytes cursor.old.place to
+        → OnOk result (CountsLeast (least_sum C.way.least xs) cursor.old cursor.new) }
 {
     let mut into = empty;
     while cursor.more(&mut left) {

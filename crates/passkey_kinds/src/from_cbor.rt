@@ -1,8 +1,8 @@
 //! Values that are decoded from data items.
-ghost use Rattle.std.specs.Prelude.{◌≡◌, ◌^◌, ℕ, Option, option_map, OnOk};
+ghost use Rattle.std.specs.Prelude.{◌≡◌, ◌^◌, ℕ, Option, option_map, OnOk, is_ok, true};
 ghost use Rattle.passkey_kinds.specs.Look.{Looks, tested};
 ghost use Rattle.passkey_kinds.specs.Shape.{reached};
-ghost use Rattle.passkey_kinds.specs.Words.{tolerated, Item, IsEncodedAt, item_of, Answers, Typed, Onward, Further, ReadsAs, truth, below, text, item, optional, scalar_of};
+ghost use Rattle.passkey_kinds.specs.Words.{tolerated, Item, IsEncodedAt, item_of, Answers, Typed, CountsKept, Onward, Further, ReadsAs, truth, below, text, item, optional, scalar_of};
 
 use crate::head::read_scalar;
 use crate::look::accepted_if;
@@ -20,8 +20,9 @@ pub trait FromCbor: Drop {
 
     /// The value that each data item decodes to, if it decodes to one; whether decoding may take
     /// memory; the most heads that `read` decodes for each byte of the data item; the data items
-    /// that it makes as values at most: those that the result keeps, and in authenticator data those
-    /// for the credential public key and the extensions; and what it is decoded from, part by part.
+    /// that it makes as values at most, and counts at least if it accepts the item: those that the
+    /// result keeps, and in authenticator data those for the credential public key and the extensions,
+    /// with their heads; and what it is decoded from, part by part.
     ghost typed: { Typed Meaning };
 
     /// Decodes the value from a data item. Returns `Refused` exactly if the type doesn't accept the
@@ -42,7 +43,11 @@ pub trait FromCbor: Drop {
         ensures onward { Onward cursor.old cursor.new }
 
         // After a success it moved on by whole heads, and counted at least as many.
-        ensures further { OnOk result (Further cursor.old cursor.new) };
+        ensures further { OnOk result (Further cursor.old cursor.new) }
+
+        // After a success it counted what the type keeps of the item.
+        ensures counts { (i : Item) (to : ℕ) → IsEncodedAt i cursor.old.bytes cursor.old.place to
+            → is_ok result ≡ true → CountsKept typed.keeps i cursor.old cursor.new };
 
     /// Returns what the part of the type to which the way leads is decoded from, and whether it
     /// accepts the data item, and keeps it. For each list and map on the way there is any number,

@@ -1,5 +1,5 @@
 //! Messages, decoded from bytes and encoded.
-ghost use Rattle.std.specs.Prelude.{◌≡◌, suc, true, IfOk, IfErr, OnOk};
+ghost use Rattle.std.specs.Prelude.{◌≡◌, ◌≤◌, ℕ, suc, true, IfOk, IfErr, OnOk};
 ghost use Rattle.passkey_kinds.specs.Words.{item_of, IsWritable, written, ReadsMessage, ReadsHere, GrowsMessage, ReadIsCoherent, MayGrowAt, Reads, read_item, table_of, record_cost};
 ghost use Rattle.passkey_kinds.specs.declared.fault.Fault.TheVariants.{OutOfMemory as NoRoom};
 ghost use Rattle.passkey_kinds.specs.declared.fault.WriteFault.TheVariants.{OutOfMemory as NoMemory};
@@ -11,6 +11,9 @@ use std::alloc::Global;
 
 /// A CTAP2 message: a map that is decoded from bytes and encoded (CTAP 2.1, sections 6 and 8).
 pub trait Message: Record {
+    /// The most heads that `read` decodes for each byte of a message, at most 16.
+    ghost cost: { ℕ };
+
     /// Decodes the message at the beginning of the bytes, and returns it with its length in bytes.
     /// Ignores the bytes after it. The errors are those of `read`.
     fn from_slice(alloc: Global, bytes: &[u8]) -> Result<(Self, usize), Fault>
@@ -24,7 +27,8 @@ pub trait Message: Record {
     /// well-formed data item of at most 256 nesting levels is there; otherwise the errors are those
     /// of `from_value`. On an error the cursor stays, and its counts include what was spent.
     fn read(alloc: Global, cursor: &mut Cursor<'_>) -> Result<Self, Fault>
-        ensures { ReadsHere Self.parts Self.fields 16 cursor.old cursor.new result };
+        ensures reads { ReadsHere Self.parts Self.fields cost cursor.old cursor.new result }
+        ensures few { cost ≤ 16 };
 
     /// Decodes the message from a data item. Returns `NotAMap` if the item isn't a map; otherwise
     /// the fault of its first bad member (`BadKey`, `Repeated`, `Refused`), or else `Missing` for

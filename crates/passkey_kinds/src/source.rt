@@ -1,6 +1,6 @@
 //! Where a record's values are decoded from.
 ghost use Rattle.std.specs.Prelude.{◌≡◌, ℕ, suc, map, option_map, Option, Some, None, is_ok, Bool, true, false, OnOk};
-ghost use Rattle.passkey_kinds.specs.Words.{Shape, Item, IsEncodedAt, item_of, Keeping, nothing, in_elements, Answers, Onward, Further, Costs, accepted, or_else, tolerated, Sets, costs_nothing, onward_same, costs_at_most};
+ghost use Rattle.passkey_kinds.specs.Words.{Shape, Item, IsEncodedAt, item_of, Keeping, nothing, Answers, Onward, Further, Costs, accepted, or_else, tolerated, Sets, costs_nothing, onward_same, costs_at_most};
 
 use crate::{FromCbor, Refusal, TolerantList, Tolerated};
 use passkey_bytes::List;
@@ -14,7 +14,7 @@ pub trait Source {
 
     /// The cost of decoding the item: at most this many heads for each byte, and at most these data
     /// items made as values; and the shape of the type that was decoded, if one was. After a success
-    /// the source is after the item.
+    /// the source is after the item, and what is kept was counted.
     ghost HasCost: { ℕ → Keeping → Option Shape → Item → ℕ → Self → Self → Bool → Type 0 };
 
     /// The source didn't move back, and its counts didn't fall.
@@ -136,8 +136,8 @@ pub fn set_tolerated<T: FromCbor, S: Source>(
     ensures sets { (i : Item) (to : ℕ) → S.At source.old i to
         → Sets (option_map T.view) (tolerated T.typed) i field.new result }
     ensures spends { (i : Item) (to : ℕ) → S.At source.old i to
-        → S.HasCost (suc T.typed.cost) T.typed.keeps (Some (tolerated T.typed).shape) i to source.old source.new
-        (is_ok result) }
+        → S.HasCost (suc T.typed.cost) (tolerated T.typed).keeps (Some (tolerated T.typed).shape) i to source.old
+        source.new (is_ok result) }
     ensures onward { S.IsOnward source.old source.new }
     ensures further { OnOk result (S.IsFurther source.old source.new) }
 {
@@ -157,8 +157,8 @@ pub fn set_or<T: FromCbor, S: Source>(
     ensures sets { (i : Item) (to : ℕ) → S.At source.old i to
         → Sets T.view (or_else (T.view default) T.typed) i field.new result }
     ensures spends { (i : Item) (to : ℕ) → S.At source.old i to
-        → S.HasCost (suc T.typed.cost) T.typed.keeps (Some (tolerated T.typed).shape) i to source.old source.new
-        (is_ok result) }
+        → S.HasCost (suc T.typed.cost) (tolerated T.typed).keeps (Some (tolerated T.typed).shape) i to source.old
+        source.new (is_ok result) }
     ensures onward { S.IsOnward source.old source.new }
     ensures further { OnOk result (S.IsFurther source.old source.new) }
 {
@@ -178,7 +178,7 @@ pub fn set_accepted<T: FromCbor, S: Source>(
     ensures sets { (i : Item) (to : ℕ) → S.At source.old i to
         → Sets (λ xs. map T.view xs) (accepted T.typed) i field.new result }
     ensures spends { (i : Item) (to : ℕ) → S.At source.old i to
-        → S.HasCost (suc (suc T.typed.cost)) (in_elements T.typed.keeps) (Some (accepted T.typed).shape) i to
+        → S.HasCost (suc (suc T.typed.cost)) (accepted T.typed).keeps (Some (accepted T.typed).shape) i to
         source.old source.new (is_ok result) }
     ensures onward { S.IsOnward source.old source.new }
     ensures further { OnOk result (S.IsFurther source.old source.new) }
@@ -197,7 +197,7 @@ pub fn set_accepted_or_none<T: FromCbor, S: Source>(
     ensures sets { (i : Item) (to : ℕ) → S.At source.old i to
         → Sets (λ o. option_map (λ xs. map T.view xs) o) (tolerated (accepted T.typed)) i field.new result }
     ensures spends { (i : Item) (to : ℕ) → S.At source.old i to
-        → S.HasCost (suc (suc (suc T.typed.cost))) (in_elements T.typed.keeps)
+        → S.HasCost (suc (suc (suc T.typed.cost))) (tolerated (accepted T.typed)).keeps
         (Some (tolerated (accepted T.typed)).shape) i to source.old source.new (is_ok result) }
     ensures onward { S.IsOnward source.old source.new }
     ensures further { OnOk result (S.IsFurther source.old source.new) }

@@ -1,6 +1,6 @@
 //! Messages that one table defines.
 ghost use Rattle.std.specs.Prelude.{◌≡◌, ◌≤◌, ℕ, suc, Option, option_map, IfOk, IfErr, OnOk};
-ghost use Rattle.passkey_kinds.specs.Words.{EachFits, IsWritable, Item, ReadsHere, record_cost, plain_tree, written};
+ghost use Rattle.passkey_kinds.specs.Words.{EachFits, IsWritable, Item, record_cost, plain_tree, written};
 ghost use Rattle.passkey_kinds.specs.Numbered.{AreMessages, table_fields};
 ghost use Rattle.passkey_kinds.specs.declared.fault.WriteFault.TheVariants.{OutOfMemory as NoMemory};
 
@@ -26,10 +26,9 @@ pub trait TableMessage: TableRecord {
 }
 
 impl<M: TableMessage> Message for M {
-    fn read(alloc: Global, cursor: &mut Cursor<'_>) -> Result<M, Fault>
-        ensures general { ReadsHere (λ m. m) (table_fields M.TableRecord.numbered M.TableRecord.table) 16 cursor.old cursor.new result }
-        ensures own { ReadsHere (λ m. m) (table_fields M.TableRecord.numbered M.TableRecord.table) M.TableMessage.cost cursor.old cursor.new result }
-    {
+    ghost cost = { M.TableMessage.cost };
+
+    fn read(alloc: Global, cursor: &mut Cursor<'_>) -> Result<M, Fault> {
         M::is_message();
         read_message(alloc, cursor)
     }

@@ -196,6 +196,8 @@ impl Response {
 }
 
 impl Message for Response {
+    ghost cost = { 7 };
+
     fn read(alloc: Global, cursor: &mut Cursor<'_>) -> Result<Response, Fault> {
         Response::read(alloc, cursor)
     }

@@ -320,6 +320,8 @@ impl Response {
 }
 
 impl Message for Response {
+    ghost cost = { 8 };
+
     fn read(alloc: Global, cursor: &mut Cursor<'_>) -> Result<Response, Fault> {
         Response::read(alloc, cursor)
     }

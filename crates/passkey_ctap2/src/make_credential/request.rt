@@ -193,6 +193,8 @@ impl Request {
 }
 
 impl Message for Request {
+    ghost cost = { 9 };
+
     fn read(alloc: Global, cursor: &mut Cursor<'_>) -> Result<Request, Fault> {
         Request::read(alloc, cursor)
     }

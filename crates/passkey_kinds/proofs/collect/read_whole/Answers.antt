@@ -1,5 +1,6 @@
 use Rattle.passkey_kinds.proofs.Steps.{further_counted, ap, arith, kept_parts, decodes_in, after_head, eased, stands_long}
 use Rattle.std.proofs.Math.Nat.{mul-le-mul_left}
+use Rattle.passkey_kinds.proofs.Counting.{parts_counts}
 use Rattle.passkey_kinds.proofs.collect.read_whole.Goals as goal
 
 pub returns-in-Some-clause-reads : goal.returns-in-Some-clause-reads
@@ -10,7 +11,8 @@ returns-in-Some-clause-reads g c = λ i to l.
     let few = ap (kept_parts w.kept) o.1.0 in
     let spent = c.in-Some.ensures.spends i to l in
     let grows = w.grows i o.0 o.1.0 in
-    grind (arith, decodes_in, after_head, o, r, few, spent, grows, c.in-Some.ensures.further, c.in-Some.ensures.counted)
+    let counts = parts_counts w.least _ (w.parts i) o.0 _ o.1.0 c.in-Some.ensures.onward (c.read_all.ensures.least o.0 to o.1.1) in
+    grind (arith, decodes_in, after_head, o, r, few, spent, grows, counts, c.in-Some.ensures.further, c.in-Some.ensures.counted)
 
 pub returns-in-None-clause-reads : goal.returns-in-None-clause-reads
 returns-in-None-clause-reads g c = λ i to l.

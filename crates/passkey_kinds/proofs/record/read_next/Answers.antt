@@ -1,5 +1,8 @@
-use Rattle.passkey_kinds.proofs.Steps.{further_twice, arith, max_depth, split, named_as, table_of, record_cost, ends_ok, stands_long, stands_back, key_names, at_least, cost_by_le, key_spent, member_spent}
+use Rattle.passkey_kinds.proofs.Steps.{◌≡◌, true, further_twice, arith, max_depth, split, named_as, table_of, record_cost, ends_ok, stands_long, stands_back, key_names, at_least, cost_by_le, key_spent, member_spent}
 use Rattle.passkey_cbor.specs.Inside.{Within}
+use Rattle.passkey_kinds.proofs.Counting.{kept_least, least_later, rises}
+use Rattle.passkey_kinds.specs.RecordReading.{keeps_by}
+use Rattle.std.proofs.Common.{is_ok}
 use Rattle.passkey_kinds.proofs.record.read_next.Goals as goal
 
 pub returns-in-None-clause-reads : goal.returns-in-None-clause-reads
@@ -24,7 +27,10 @@ returns-in-Some-clause-reads g c = λ m to l.
     let told = c.read_member.ensures.reads m.0 m.1 to naming there in
     let spent = member_spent (record_cost t) (stands_long m.0 s.front) s.back.forward (at_least t.rows) key.spends
     key.ends (cost_by_le t.rows (named_as c.in-Some.key)) value.spends in
-    grind (arith, ends_ok, naming, told, value, spent)
+    let keeps = keeps_by t.rows (named_as c.in-Some.key) in
+    let counts = ends_ok c.read_member.result (λ (ok : is_ok c.read_member.result ≡ true).
+    least_later _ (rises c.in-Some.ensures.onward) (kept_least keeps m.1 _ _ c.read_member.ensures.onward (value.counts ok))) in
+    grind (arith, ends_ok, naming, told, value, spent, counts)
 
 pub returns-in-Some-clause-further : goal.returns-in-Some-clause-further
 returns-in-Some-clause-further g c =

@@ -1,4 +1,7 @@
 use Rattle.passkey_kinds.proofs.Steps.{counts_then, counts_more, rules, refl, arith, err_from_is_err_and, onward_of, onward_then, on_ok, next_is, spent_within, one_more_done, each_done, at_least, goes_on, fails, all_read}
+use Rattle.passkey_kinds.proofs.Counting.{rises}
+use Rattle.passkey_kinds.proofs.Common.{keeps_by, named, table_of}
+use Rattle.passkey_kinds.specs.Kind.{least_of}
 use Rattle.passkey_kinds.proofs.record.read_pairs_ahead.Goals as goal
 
 pub loop-alloc-preserved : goal.loop-alloc-preserved
@@ -9,6 +12,7 @@ loop-alloc-preserved g c = record {
       (counts_more _ _ _ _ _ c.loop-alloc-test.ensures.walks.looks c.loop-alloc-test.ensures.went.heads))
       c.in_ok-read_next.ensures.further.counts;
   each = λ ms to l.
+      let t = g.R.Record.fields in
       let b = c.more.new.self in
       let d = c.read_next.new.cursor in
       let e = c.loop-alloc.invariant.each ms to l in
@@ -16,6 +20,8 @@ loop-alloc-preserved g c = record {
       let one = c.in_ok-read_next.ensures.reads n.first n.middle n.here in
       one_more_done e b _ d c.loop-alloc-test.ensures.walks.looks n _ refl one.spends one.ends
       c.in_ok-read_next.ensures.onward.same
+      (least_of (keeps_by t.rows (named (table_of t) n.first.0)) n.first.1) refl
+      (rises (onward_of c.loop-alloc.cursor b c.loop-alloc-test.ensures.went)) one.counts
       (goes_on _ ms e.rest n.others n.first _ _ _ n.whole refl e.done _ _ one.answers);
 }
 
@@ -34,7 +40,8 @@ pub returns-clause-reads : goal.returns-clause-reads
 returns-clause-reads g c = λ ms to l.
     let walks = c.loop-alloc-test.ensures.walks in
     let e = c.loop-alloc.invariant.each ms to l in
-    let ended = each_done e c.more.new.self walks.pairs walks.looks (omega (arith, at_least g.R.Record.fields.rows)) in
+    let ended = each_done e c.more.new.self walks.pairs walks.looks (omega (arith, at_least g.R.Record.fields.rows))
+    refl (rises (onward_of c.loop-alloc.cursor c.more.new.self c.loop-alloc-test.ensures.went)) in
     search (rules, all_read, on_ok, g.R.Record.fields, ended, c.finish.ensures)
 
 pub returns-clause-counts : goal.returns-clause-counts

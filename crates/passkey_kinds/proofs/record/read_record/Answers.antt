@@ -1,4 +1,5 @@
 use Rattle.passkey_kinds.proofs.Steps.{further_counted, members-pairs_of, arith, head_before, eased, stands_long, at_least, kept_pairs, members_are, reads_from, no_record}
+use Rattle.passkey_kinds.proofs.Counting.{map_counts}
 use Rattle.passkey_kinds.proofs.record.read_record.Goals as goal
 
 pub returns-in-Some-clause-reads : goal.returns-in-Some-clause-reads
@@ -12,7 +13,8 @@ returns-in-Some-clause-reads g c = λ i to l.
     let some = at_least t.rows in
     let spent = c.in-Some.ensures.spends i to l in
     let on = c.in-Some.ensures.further in
-    grind (arith, reads_from, members-pairs_of, head_before, is, r, few, some, spent, on, c.in-Some.ensures.counted)
+    let counts = map_counts t c.read_pairs_ahead.result ms i _ is c.in-Some.ensures.onward r.counts in
+    grind (arith, reads_from, members-pairs_of, head_before, is, r, few, some, spent, on, counts, c.in-Some.ensures.counted)
 
 pub returns-in-None-clause-reads : goal.returns-in-None-clause-reads
 returns-in-None-clause-reads g c = λ i to l.

@@ -23,3 +23,8 @@ returns-in-Err-OutOfRangeIntegerValue-clause-reads c = λ i to l.
     let v = c.in-Err-OutOfRangeIntegerValue.ensures.values i to l in
     let is = c.in-Err-OutOfRangeIntegerValue.field-0-is in
     grind (arith, v, is)
+
+pub returns-in-Ok-clause-counts : goal.returns-in-Ok-clause-counts
+returns-in-Ok-clause-counts c = λ i to l ok.
+    let v = c.in-Ok.ensures.values i to l in
+    record { heads = c.in-Ok.ensures.went.heads; nodes = omega (arith, v.nodes) }

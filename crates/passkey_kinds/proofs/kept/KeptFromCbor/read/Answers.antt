@@ -1,4 +1,4 @@
-use Rattle.passkey_kinds.proofs.Steps.{arith, err_from_is_err_and}
+use Rattle.passkey_kinds.proofs.Steps.{refl, true, arith, err_from_is_err_and}
 use Rattle.passkey_kinds.proofs.kept.KeptFromCbor.read.Goals as goal
 
 pub returns-in_err-read-clause-reads : goal.returns-in_err-read-clause-reads
@@ -13,3 +13,6 @@ returns-clause-reads c = λ i to l.
     let made = c.new.ensures in
     let or = c.ok_or.ensures in
     grind (arith, read, made, or)
+
+pub returns-clause-counts : goal.returns-clause-counts
+returns-clause-counts c = λ i to l ok. c.in_ok-read.ensures.counts i to l (refl {a = true})

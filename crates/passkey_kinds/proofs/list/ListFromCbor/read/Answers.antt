@@ -1,4 +1,5 @@
-use Rattle.passkey_kinds.proofs.Steps.{arith, map, ap, kept_elements_in, list_in}
+use Rattle.passkey_kinds.proofs.Steps.{ok_ends, arith, map, ap, kept_elements_in, list_in}
+use Rattle.passkey_kinds.proofs.Counting.{elements_kept}
 use Rattle.passkey_kinds.proofs.list.ListFromCbor.read.Goals as goal
 
 pub returns-clause-reads : goal.returns-clause-reads
@@ -7,3 +8,7 @@ returns-clause-reads g c = λ i to l.
     let begun = list_in g.T.FromCbor.typed.of i (ap (map g.T.FromCbor.view) c.empty.ensures) in
     let kept = kept_elements_in g.T.FromCbor.typed.keeps i in
     grind (arith, r, begun, kept)
+
+pub returns-clause-counts : goal.returns-clause-counts
+returns-clause-counts g c = λ i to l ok.
+    elements_kept g.T.FromCbor.typed.keeps i _ _ (ok_ends c.read_whole.result (c.read_whole.ensures.reads i to l).counts ok)

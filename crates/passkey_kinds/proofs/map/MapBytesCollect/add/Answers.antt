@@ -1,5 +1,6 @@
-use Rattle.passkey_kinds.proofs.Steps.{further_on, arith, suc, max, err_from_is_err_and, max_depth, split, stands_long, stands_back, failed, map_values-insert, key_spent, member_spent}
+use Rattle.passkey_kinds.proofs.Steps.{refl, true, further_on, arith, suc, max, err_from_is_err_and, max_depth, split, stands_long, stands_back, failed, map_values-insert, key_spent, member_spent}
 use Rattle.passkey_cbor.specs.Inside.{Within}
+use Rattle.passkey_kinds.proofs.Counting.{kept_least, least_later, rises}
 use Rattle.passkey_kinds.proofs.map.MapBytesCollect.add.Goals as goal
 
 pub returns-in_err-key-clause-adds : goal.returns-in_err-key-clause-adds
@@ -44,7 +45,11 @@ returns-clause-adds g c = λ x to l.
     (stands_back x.1 c.read.new.cursor c.in_ok-key.ensures.onward.same key.ends s.back) in
     let spent = member_spent (suc (max 3 g.T.FromCbor.typed.cost)) long s.back.forward (omega arith) key.spends key.ends
     (omega arith) value.spends in
-    grind (arith, map_values-insert, spent, key.answers, value.answers, value.ends, c.in_ok-insert.ensures)
+    let counted = c.in_ok-read.ensures.counts x.1 to
+    (stands_back x.1 c.read.new.cursor c.in_ok-key.ensures.onward.same key.ends s.back) (refl {a = true}) in
+    let counts = least_later _ (rises c.in_ok-key.ensures.onward)
+    (kept_least g.T.FromCbor.typed.keeps x.1 _ _ c.in_ok-read.ensures.onward counted) in
+    grind (arith, map_values-insert, spent, key.answers, value.answers, value.ends, c.in_ok-insert.ensures, counts)
 
 pub returns-clause-further : goal.returns-clause-further
 returns-clause-further g c = further_on c.in_ok-key.ensures.further c.in_ok-read.ensures.further
