@@ -24,7 +24,7 @@ reads_fault view takes wanted (fault.Repeated n) not h = h
 reads_fault view takes wanted (fault.Refused n) not h = h
 reads_fault view takes wanted (fault.Missing n) not h = h
 
-there : {X : Type 0} (o : Option X) → is_some o ≡ true → (x : X) × (o ≡ Some x)
+pub there : {X : Type 0} (o : Option X) → is_some o ≡ true → (x : X) × (o ≡ Some x)
 there (Some x) e = (x, refl)
 there None e = absurd cc
 

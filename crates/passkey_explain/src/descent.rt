@@ -264,7 +264,7 @@ fn next_part<'a, M: FromCbor>(
 /// Returns what is to blame if the type to which the way leads refuses the data item: the innermost
 /// item, or map key, that is refused, and why. Nothing is promised for an item that the type
 /// accepts. Returns `OutOfMemory` if an allocation fails.
-pub(crate) fn explain_at<M: FromCbor>(
+pub fn explain_at<M: FromCbor>(
     alloc: Global,
     from: &[u8],
     value: &Value,

@@ -1,6 +1,6 @@
 //! Explanations as a person reads them.
 
-use crate::{DroppedItem, Explanation, Reason, RefusedItem, Step};
+use crate::{Blame, DroppedItem, Explanation, Extent, Reason, RefusedItem, Step};
 use passkey_kinds::Fault;
 use std::fmt;
 
@@ -41,29 +41,32 @@ fn write_reason<W: fmt::Write>(f: &mut fmt::Formatter<W>, reason: Reason) -> fmt
     }
 }
 
-impl fmt::Display for RefusedItem {
+impl fmt::Display for Blame {
     fn fmt<W: fmt::Write>(&self, f: &mut fmt::Formatter<W>) -> fmt::Result {
-        write_path(f, self.blame.path.as_slice())?;
-        if !self.blame.path.is_empty() {
+        write_path(f, self.path.as_slice())?;
+        if !self.path.is_empty() {
             f.write_str(": ")?;
         }
-        write_reason(f, self.blame.reason)?;
-        write!(
-            f,
-            " (offset {}, length {})",
-            self.extent.offset, self.extent.len
-        )
+        write_reason(f, self.reason)
+    }
+}
+
+impl fmt::Display for Extent {
+    fn fmt<W: fmt::Write>(&self, f: &mut fmt::Formatter<W>) -> fmt::Result {
+        write!(f, "(offset {}, length {})", self.offset, self.len)
+    }
+}
+
+impl fmt::Display for RefusedItem {
+    fn fmt<W: fmt::Write>(&self, f: &mut fmt::Formatter<W>) -> fmt::Result {
+        write!(f, "{} {}", self.blame, self.extent)
     }
 }
 
 impl fmt::Display for DroppedItem {
     fn fmt<W: fmt::Write>(&self, f: &mut fmt::Formatter<W>) -> fmt::Result {
         write_path(f, self.path.as_slice())?;
-        write!(
-            f,
-            " (offset {}, length {}): ",
-            self.extent.offset, self.extent.len
-        )?;
+        write!(f, " {}: ", self.extent)?;
         if !self.blame.path.is_empty() {
             f.write_str("at ")?;
             write_path(f, self.blame.path.as_slice())?;

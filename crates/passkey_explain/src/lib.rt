@@ -11,6 +11,7 @@ mod explanation;
 
 pub use along::{Extent, locate};
 pub use blame::{Blame, Reason, Step};
+pub use descent::explain_at;
 pub use description::{Description, FieldName, describe};
 pub use dropping::{DroppedItem, dropped};
 pub use explanation::{Explanation, RefusedItem, explain};

@@ -3,3 +3,4 @@ pub mod KeyBlame
 pub mod Checked
 pub mod DataBlame
 pub mod DataLength
+pub mod StatementBlame

@@ -1,6 +1,9 @@
 //! Refusals as a person reads them.
 
-use crate::{DataPart, DataReason, DataRefusal, KeyBlame, KeyRefusal};
+use crate::{
+    DataPart, DataReason, DataRefusal, KeyBlame, KeyRefusal, StatementBlame, StatementExplanation,
+    StatementRefusal,
+};
 use passkey_cbor::Value;
 use passkey_cose::CoseError;
 use passkey_describe_data::parameter_name;
@@ -109,6 +112,32 @@ impl fmt::Display for DataRefusal {
                 " (offset {}, length {})",
                 self.extent.offset, self.extent.len
             ),
+        }
+    }
+}
+
+impl fmt::Display for StatementBlame {
+    fn fmt<W: fmt::Write>(&self, f: &mut fmt::Formatter<W>) -> fmt::Result {
+        match self {
+            StatementBlame::Item(blame) => write!(f, "{blame}"),
+            StatementBlame::NotEmpty => f.write_str("a map without members is wanted"),
+            StatementBlame::TooFew => f.write_str("at least two statements are wanted"),
+            StatementBlame::Nested => f.write_str("an element is of the format compound itself"),
+        }
+    }
+}
+
+impl fmt::Display for StatementRefusal {
+    fn fmt<W: fmt::Write>(&self, f: &mut fmt::Formatter<W>) -> fmt::Result {
+        write!(f, "{} {}", self.blame, self.extent)
+    }
+}
+
+impl fmt::Display for StatementExplanation {
+    fn fmt<W: fmt::Write>(&self, f: &mut fmt::Formatter<W>) -> fmt::Result {
+        match self {
+            StatementExplanation::NotWellFormed(malformed) => write!(f, "{malformed}"),
+            StatementExplanation::Refused(refusal) => write!(f, "{refusal}"),
         }
     }
 }

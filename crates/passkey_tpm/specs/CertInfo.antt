@@ -1,9 +1,13 @@
 -- certInfo: a TPMS_ATTEST of type TPM_ST_ATTEST_CERTIFY (TPM 2.0 Library, Part 2).
-use Rattle.std.specs.Prelude.{ℕ, ◌<◌, ◌^◌, ◌==◌, ◌&&◌, List, [], ◌∷◌, ◌++◌, length, if◌then◌else◌, Option, Some, None}
+use Rattle.std.specs.Prelude.{ℕ, ◌<◌, ◌^◌, List, [], ◌∷◌, ◌++◌, length, Option, option_map, Result, Ok}
 use Rattle.std.specs.Int.{w16, w32, w64, to_be_bytes}
-use Rattle.passkey_tpm.specs.Parts.{Begun, ◌>>=◌, u8_at, u16_at, u32_at, u64_at, sized_at, sized_written, whole_only}
+use Rattle.std.specs.Result.{result_err, result_ok}
+use Rattle.passkey_tpm.specs.Parts.{Begun, ◌>>=◌, constant_at, wide_constant_at, refusal_of, u8_at, u32_at, u64_at, sized_at, sized_written, whole_only}
 use Rattle.passkey_tpm.specs.declared.cert_info.ClockInfo.{ClockInfo}
 use Rattle.passkey_tpm.specs.declared.cert_info.CertInfo.{CertInfo}
+use Rattle.passkey_tpm.specs.declared.refusal.Stop.{Stop}
+use Rattle.passkey_tpm.specs.declared.refusal.TpmField.TheVariants as field
+use Rattle.passkey_tpm.specs.declared.refusal.TpmRefusal.{TpmRefusal}
 
 -- what contracts see of it
 pub record CertInfoParts : Type 0 where
@@ -32,30 +36,29 @@ abbrev pub certify : ℕ
 certify = 0x8017
 
 -- the bytes after the magic number and the type
-unfoldable pub header_at : List ℕ → Option (List ℕ)
+unfoldable pub header_at : List ℕ → Result (List ℕ) Stop
 header_at bytes = do
-  generated ← u32_at bytes
-  type ← u16_at generated.1
-  if generated.0 == magic && type.0 == certify then Some type.1 else None
+  rest ← wide_constant_at field.Magic magic bytes
+  constant_at field.AttestType certify rest
 
 unfoldable pub clock_info_at : List ℕ → Begun ClockInfo
 clock_info_at bytes = do
-  clock ← u64_at bytes
-  resets ← u32_at clock.1
-  restarts ← u32_at resets.1
-  safe ← u8_at restarts.1
-  Some (record { clock = clock.0; reset_count = resets.0; restart_count = restarts.0; safe = safe.0 }, safe.1)
+  clock ← u64_at field.Clock bytes
+  resets ← u32_at field.ResetCount clock.1
+  restarts ← u32_at field.RestartCount resets.1
+  safe ← u8_at field.Safe restarts.1
+  Ok (record { clock = clock.0; reset_count = resets.0; restart_count = restarts.0; safe = safe.0 }, safe.1)
 
 unfoldable pub cert_info_at : List ℕ → Begun CertInfoParts
 cert_info_at bytes = do
   rest ← header_at bytes
-  signer ← sized_at rest
-  extra ← sized_at signer.1
+  signer ← sized_at field.QualifiedSigner rest
+  extra ← sized_at field.ExtraData signer.1
   clock ← clock_info_at extra.1
-  firmware ← u64_at clock.1
-  name ← sized_at firmware.1
-  qualified ← sized_at name.1
-  Some (
+  firmware ← u64_at field.FirmwareVersion clock.1
+  name ← sized_at field.Name firmware.1
+  qualified ← sized_at field.QualifiedName name.1
+  Ok (
     record {
       qualified_signer = signer.0;
       extra_data = extra.0;
@@ -67,9 +70,15 @@ cert_info_at bytes = do
     qualified.1,
   )
 
--- all of the bytes
+-- all of the bytes; or where and why they aren't it
+abbrev pub cert_info_read : List ℕ → Result CertInfoParts Stop
+cert_info_read bytes = cert_info_at bytes >>= whole_only
+
 abbrev pub cert_info_in : List ℕ → Option CertInfoParts
-cert_info_in bytes = cert_info_at bytes >>= whole_only
+cert_info_in bytes = result_ok (cert_info_read bytes)
+
+abbrev pub cert_info_refusal : List ℕ → Option TpmRefusal
+cert_info_refusal bytes = option_map (refusal_of (length bytes)) (result_err (cert_info_read bytes))
 
 -- ---- encoding
 

@@ -1,16 +1,23 @@
 -- pubArea: a TPMT_PUBLIC with an RSA key or a key on an elliptic curve (TPM 2.0 Library, Part 2).
-use Rattle.std.specs.Prelude.{ℕ, ◌<◌, ◌≤◌, ◌^◌, ◌==◌, ◌⊎◌, List, ◌++◌, length, if◌then◌else◌, Option, Some, None}
+use Rattle.std.specs.Prelude.{ℕ, ◌<◌, ◌≤◌, ◌^◌, ◌==◌, ◌⊎◌, List, ◌++◌, length, if◌then◌else◌, Option, option_map, Result, Ok, Err}
 use Rattle.std.specs.Int.{w16, w32, to_be_bytes}
+use Rattle.std.specs.Result.{result_err, result_ok}
 use Rattle.passkey_tpm.specs.HashAlgorithm.{hash_at, IsHash}
-use Rattle.passkey_tpm.specs.Parts.{Begun, ◌>>=◌, u16_at, u32_at, sized_at, sized_written, whole_only}
+use Rattle.passkey_tpm.specs.Parts.{Begun, ◌>>=◌, constant_at, refused, refusal_of, u16_at, u32_at, sized_at, sized_written, whole_only}
 use Rattle.passkey_tpm.specs.Scheme.{rsa_scheme_at, ecc_scheme_at, kdf_at, hash_written, rsa_scheme_written, ecc_scheme_written, kdf_written, IsRsaScheme, IsEccScheme, IsKdf}
 use Rattle.passkey_tpm.specs.declared.hash_algorithm.HashAlgorithm.{HashAlgorithm}
 use Rattle.passkey_tpm.specs.declared.pub_area.PubArea.{PubArea}
 use Rattle.passkey_tpm.specs.declared.public_key.Curve.{Curve}
+use Rattle.passkey_tpm.specs.declared.public_key.KeyType.{KeyType}
+use Rattle.passkey_tpm.specs.declared.public_key.KeyType.TheVariants as type
 use Rattle.passkey_tpm.specs.declared.public_key.PublicKey.{PublicKey}
 use Rattle.passkey_tpm.specs.declared.public_key.PublicKey.TheVariants as key
 use Rattle.passkey_tpm.specs.declared.public_key.RsaKey.{RsaKey}
 use Rattle.passkey_tpm.specs.declared.public_key.EccKey.{EccKey}
+use Rattle.passkey_tpm.specs.declared.refusal.Stop.{Stop}
+use Rattle.passkey_tpm.specs.declared.refusal.TpmField.TheVariants as field
+use Rattle.passkey_tpm.specs.declared.refusal.TpmReason.TheVariants.{Unknown}
+use Rattle.passkey_tpm.specs.declared.refusal.TpmRefusal.{TpmRefusal}
 use Rattle.passkey_tpm.specs.declared.scheme.EccScheme.{EccScheme}
 use Rattle.passkey_tpm.specs.declared.scheme.KdfScheme.{KdfScheme}
 use Rattle.passkey_tpm.specs.declared.scheme.RsaScheme.{RsaScheme}
@@ -65,57 +72,67 @@ curve_of id = record { 0 = id }
 
 unfoldable pub curve_at : List ℕ → Begun Curve
 curve_at bytes = do
-  id ← u16_at bytes
-  Some (curve_of id.0, id.1)
+  id ← u16_at field.CurveId bytes
+  Ok (curve_of id.0, id.1)
 
 -- ---- decoding
 
--- the bytes after TPM_ALG_NULL
-unfoldable pub null_at : List ℕ → Option (List ℕ)
-null_at bytes = do
-  id ← u16_at bytes
-  if id.0 == 0x0010 then Some id.1 else None
+-- the type of a key at the beginning of the bytes, TPM_ALG_RSA or TPM_ALG_ECC, by its number
+abbrev pub type_after : List ℕ → ℕ → List ℕ → Begun KeyType
+type_after bytes id rest =
+    if id == 0x0001 then Ok (type.Rsa, rest)
+    else if id == 0x0023 then Ok (type.Ecc, rest)
+    else Err (refused field.KeyType bytes 2 Unknown)
+
+unfoldable pub type_at : List ℕ → Begun KeyType
+type_at bytes = do
+  id ← u16_at field.KeyType bytes
+  type_after bytes id.0 id.1
 
 -- TPMS_RSA_PARMS and TPM2B_PUBLIC_KEY_RSA
 unfoldable pub rsa_at : List ℕ → Begun RsaParts
 rsa_at bytes = do
-  rest ← null_at bytes
+  rest ← constant_at field.Symmetric 0x0010 bytes
   scheme ← rsa_scheme_at rest
-  bits ← u16_at scheme.1
-  exponent ← u32_at bits.1
-  modulus ← sized_at exponent.1
-  Some (record { scheme = scheme.0; key_bits = bits.0; exponent = exponent.0; modulus = modulus.0 }, modulus.1)
+  bits ← u16_at field.KeyBits scheme.1
+  exponent ← u32_at field.Exponent bits.1
+  modulus ← sized_at field.Modulus exponent.1
+  Ok (record { scheme = scheme.0; key_bits = bits.0; exponent = exponent.0; modulus = modulus.0 }, modulus.1)
 
 -- TPMS_ECC_PARMS and TPMS_ECC_POINT
 unfoldable pub ecc_at : List ℕ → Begun EccParts
 ecc_at bytes = do
-  rest ← null_at bytes
+  rest ← constant_at field.Symmetric 0x0010 bytes
   scheme ← ecc_scheme_at rest
   curve ← curve_at scheme.1
   kdf ← kdf_at curve.1
-  x ← sized_at kdf.1
-  y ← sized_at x.1
-  Some (record { scheme = scheme.0; curve = curve.0; kdf = kdf.0; x = x.0; y = y.0 }, y.1)
+  x ← sized_at field.X kdf.1
+  y ← sized_at field.Y x.1
+  Ok (record { scheme = scheme.0; curve = curve.0; kdf = kdf.0; x = x.0; y = y.0 }, y.1)
 
--- the key of a type, TPM_ALG_RSA or TPM_ALG_ECC
-abbrev pub key_at : ℕ → List ℕ → Begun KeyParts
-key_at type bytes =
-    if type == 0x0001 then (rsa_at bytes >>= λ k. Some (rsa k.0, k.1))
-    else if type == 0x0023 then (ecc_at bytes >>= λ k. Some (ecc k.0, k.1))
-    else None
+-- the key of a type
+abbrev pub key_at : KeyType → List ℕ → Begun KeyParts
+key_at type.Rsa bytes = rsa_at bytes >>= λ k. Ok (rsa k.0, k.1)
+key_at type.Ecc bytes = ecc_at bytes >>= λ k. Ok (ecc k.0, k.1)
 
 unfoldable pub pub_area_at : List ℕ → Begun PubAreaParts
 pub_area_at bytes = do
-  type ← u16_at bytes
-  hash ← hash_at type.1
-  attributes ← u32_at hash.1
-  policy ← sized_at attributes.1
-  key ← key_at type.0 policy.1
-  Some (record { name_alg = hash.0; object_attributes = attributes.0; auth_policy = policy.0; key = key.0 }, key.1)
+  kind ← type_at bytes
+  hash ← hash_at field.NameAlg kind.1
+  attributes ← u32_at field.ObjectAttributes hash.1
+  policy ← sized_at field.AuthPolicy attributes.1
+  key ← key_at kind.0 policy.1
+  Ok (record { name_alg = hash.0; object_attributes = attributes.0; auth_policy = policy.0; key = key.0 }, key.1)
 
--- all of the bytes
+-- all of the bytes; or where and why they aren't it
+abbrev pub pub_area_read : List ℕ → Result PubAreaParts Stop
+pub_area_read bytes = pub_area_at bytes >>= whole_only
+
 abbrev pub pub_area_in : List ℕ → Option PubAreaParts
-pub_area_in bytes = pub_area_at bytes >>= whole_only
+pub_area_in bytes = result_ok (pub_area_read bytes)
+
+abbrev pub pub_area_refusal : List ℕ → Option TpmRefusal
+pub_area_refusal bytes = option_map (refusal_of (length bytes)) (result_err (pub_area_read bytes))
 
 -- ---- encoding
 

@@ -1,9 +1,12 @@
 -- Schemes, each with the hash algorithm that it uses (TPM 2.0 Library, Part 2).
-use Rattle.std.specs.Prelude.{ℕ, ◌<◌, ◌^◌, ◌==◌, List, ◌++◌, if◌then◌else◌, Some, None}
+use Rattle.std.specs.Prelude.{ℕ, ◌<◌, ◌^◌, ◌==◌, List, ◌++◌, if◌then◌else◌, Ok, Err}
 use Rattle.std.specs.Int.{w16, to_be_bytes}
 use Rattle.passkey_tpm.specs.HashAlgorithm.{hash_at, IsHash}
-use Rattle.passkey_tpm.specs.Parts.{Begun, ◌>>=◌, u16_at}
+use Rattle.passkey_tpm.specs.Parts.{Begun, ◌>>=◌, refused, u16_at}
 use Rattle.passkey_tpm.specs.declared.hash_algorithm.HashAlgorithm.{HashAlgorithm}
+use Rattle.passkey_tpm.specs.declared.refusal.TpmField.{TpmField}
+use Rattle.passkey_tpm.specs.declared.refusal.TpmField.TheVariants as field
+use Rattle.passkey_tpm.specs.declared.refusal.TpmReason.TheVariants.{Unknown}
 use Rattle.passkey_tpm.specs.declared.scheme.RsaScheme.{RsaScheme}
 use Rattle.passkey_tpm.specs.declared.scheme.RsaScheme.TheVariants as rsa
 use Rattle.passkey_tpm.specs.declared.scheme.EccScheme.{EccScheme}
@@ -12,62 +15,62 @@ use Rattle.passkey_tpm.specs.declared.scheme.KdfScheme.{KdfScheme}
 use Rattle.passkey_tpm.specs.declared.scheme.KdfScheme.TheVariants as kdf
 
 -- the scheme, with the hash algorithm at the beginning of the bytes
-abbrev pub hashed : {S : Type 0} → (HashAlgorithm → S) → List ℕ → Begun S
-hashed make bytes = hash_at bytes >>= λ hash. Some (make hash.0, hash.1)
+abbrev pub hashed : {S : Type 0} → TpmField → (HashAlgorithm → S) → List ℕ → Begun S
+hashed f make bytes = hash_at f bytes >>= λ hash. Ok (make hash.0, hash.1)
 
--- TPMT_RSA_SCHEME, after its TPM_ALG_ID
-abbrev pub rsa_scheme_after : ℕ → List ℕ → Begun RsaScheme
-rsa_scheme_after id rest =
-    if id == 0x0010 then Some (rsa.Null, rest)
-    else if id == 0x0014 then hashed rsa.RsaSsa rest
-    else if id == 0x0015 then Some (rsa.RsaEs, rest)
-    else if id == 0x0016 then hashed rsa.RsaPss rest
-    else if id == 0x0017 then hashed rsa.Oaep rest
-    else None
+-- TPMT_RSA_SCHEME at the beginning of the bytes, after its TPM_ALG_ID
+abbrev pub rsa_scheme_after : List ℕ → ℕ → List ℕ → Begun RsaScheme
+rsa_scheme_after bytes id rest =
+    if id == 0x0010 then Ok (rsa.Null, rest)
+    else if id == 0x0014 then hashed field.SchemeHash rsa.RsaSsa rest
+    else if id == 0x0015 then Ok (rsa.RsaEs, rest)
+    else if id == 0x0016 then hashed field.SchemeHash rsa.RsaPss rest
+    else if id == 0x0017 then hashed field.SchemeHash rsa.Oaep rest
+    else Err (refused field.Scheme bytes 2 Unknown)
 
 unfoldable pub rsa_scheme_at : List ℕ → Begun RsaScheme
 rsa_scheme_at bytes = do
-  id ← u16_at bytes
-  rsa_scheme_after id.0 id.1
+  id ← u16_at field.Scheme bytes
+  rsa_scheme_after bytes id.0 id.1
 
 -- TPMS_SCHEME_ECDAA: the hash algorithm, and a counter
 unfoldable pub ecdaa_at : List ℕ → Begun EccScheme
 ecdaa_at bytes = do
-  hash ← hash_at bytes
-  count ← u16_at hash.1
-  Some (ecc.Ecdaa hash.0 count.0, count.1)
+  hash ← hash_at field.SchemeHash bytes
+  count ← u16_at field.SchemeCount hash.1
+  Ok (ecc.Ecdaa hash.0 count.0, count.1)
 
--- TPMT_ECC_SCHEME, after its TPM_ALG_ID
-abbrev pub ecc_scheme_after : ℕ → List ℕ → Begun EccScheme
-ecc_scheme_after id rest =
-    if id == 0x0010 then Some (ecc.Null, rest)
-    else if id == 0x0018 then hashed ecc.Ecdsa rest
-    else if id == 0x0019 then hashed ecc.Ecdh rest
+-- TPMT_ECC_SCHEME at the beginning of the bytes, after its TPM_ALG_ID
+abbrev pub ecc_scheme_after : List ℕ → ℕ → List ℕ → Begun EccScheme
+ecc_scheme_after bytes id rest =
+    if id == 0x0010 then Ok (ecc.Null, rest)
+    else if id == 0x0018 then hashed field.SchemeHash ecc.Ecdsa rest
+    else if id == 0x0019 then hashed field.SchemeHash ecc.Ecdh rest
     else if id == 0x001A then ecdaa_at rest
-    else if id == 0x001B then hashed ecc.Sm2 rest
-    else if id == 0x001C then hashed ecc.EcSchnorr rest
-    else if id == 0x001D then hashed ecc.EcMqv rest
-    else None
+    else if id == 0x001B then hashed field.SchemeHash ecc.Sm2 rest
+    else if id == 0x001C then hashed field.SchemeHash ecc.EcSchnorr rest
+    else if id == 0x001D then hashed field.SchemeHash ecc.EcMqv rest
+    else Err (refused field.Scheme bytes 2 Unknown)
 
 unfoldable pub ecc_scheme_at : List ℕ → Begun EccScheme
 ecc_scheme_at bytes = do
-  id ← u16_at bytes
-  ecc_scheme_after id.0 id.1
+  id ← u16_at field.Scheme bytes
+  ecc_scheme_after bytes id.0 id.1
 
--- TPMT_KDF_SCHEME, after its TPM_ALG_ID
-abbrev pub kdf_after : ℕ → List ℕ → Begun KdfScheme
-kdf_after id rest =
-    if id == 0x0010 then Some (kdf.Null, rest)
-    else if id == 0x0007 then hashed kdf.Mgf1 rest
-    else if id == 0x0020 then hashed kdf.Kdf1Sp80056a rest
-    else if id == 0x0021 then hashed kdf.Kdf2 rest
-    else if id == 0x0022 then hashed kdf.Kdf1Sp800108 rest
-    else None
+-- TPMT_KDF_SCHEME at the beginning of the bytes, after its TPM_ALG_ID
+abbrev pub kdf_after : List ℕ → ℕ → List ℕ → Begun KdfScheme
+kdf_after bytes id rest =
+    if id == 0x0010 then Ok (kdf.Null, rest)
+    else if id == 0x0007 then hashed field.KdfHash kdf.Mgf1 rest
+    else if id == 0x0020 then hashed field.KdfHash kdf.Kdf1Sp80056a rest
+    else if id == 0x0021 then hashed field.KdfHash kdf.Kdf2 rest
+    else if id == 0x0022 then hashed field.KdfHash kdf.Kdf1Sp800108 rest
+    else Err (refused field.Kdf bytes 2 Unknown)
 
 unfoldable pub kdf_at : List ℕ → Begun KdfScheme
 kdf_at bytes = do
-  id ← u16_at bytes
-  kdf_after id.0 id.1
+  id ← u16_at field.Kdf bytes
+  kdf_after bytes id.0 id.1
 
 -- ---- encoding
 

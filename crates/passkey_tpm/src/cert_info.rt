@@ -1,10 +1,14 @@
 //! `certInfo` of a tpm attestation statement.
-ghost use Rattle.std.specs.Prelude.{◌≡◌, ◌≢◌, ◌≤◌, ◌^◌, ◌++◌, ◌⊎◌, length, nat_lt, Err, option_map, IfOk, OnOk};
-ghost use Rattle.passkey_tpm.specs.CertInfo.{cert_info_parts, header_at, clock_info_at, cert_info_at, cert_info_in, clock_info_written, cert_info_written, IsClockInfo, IsCertInfo};
+ghost use Rattle.std.specs.Prelude.{◌≡◌, ◌≢◌, ◌≤◌, ◌^◌, ◌++◌, ◌⊎◌, length, nat_lt, not, is_some, Err, option_map, IfOk, OnOk};
+ghost use Rattle.passkey_tpm.specs.CertInfo.{cert_info_parts, header_at, clock_info_at, cert_info_at, cert_info_read, cert_info_in, cert_info_refusal, clock_info_written, cert_info_written, IsClockInfo, IsCertInfo};
+ghost use Rattle.passkey_tpm.specs.Parts.{begun};
 ghost use Rattle.passkey_tpm.specs.declared.encode_error.EncodeError.TheVariants.{TooLong};
 
-use crate::EncodeError;
-use crate::part::{Begun, push_sized, read_sized, read_u8, read_u16, read_u32, read_u64};
+use crate::part::{
+    Begun, bytes_follow, push_sized, read_sized, read_u8, read_u32, read_u64, skip_u16, skip_u32,
+};
+use crate::refusal::{Stop, TpmField, refusal_of};
+use crate::{EncodeError, TpmRefusal};
 use std::alloc::Global;
 
 /// TPM_GENERATED_VALUE, which begins each structure that a TPM made.
@@ -56,46 +60,41 @@ pub struct CertInfo<'a> {
 }
 
 #[tactic(auto, unfolding(crate::specs::CertInfo::header_at))]
-fn read_header(bytes: &[u8]) -> Option<&[u8]>
-    ensures { option_map (λ r. r.now) result ≡ header_at bytes.now }
+fn read_header(bytes: &[u8]) -> Result<&[u8], Stop>
+    ensures { begun (λ r. r.now) result ≡ header_at bytes.now }
 {
-    let (magic, rest) = read_u32(bytes)?;
-    let (kind, rest) = read_u16(rest)?;
-    if magic == MAGIC && kind == CERTIFY {
-        Some(rest)
-    } else {
-        None
-    }
+    let rest = skip_u32(TpmField::Magic, MAGIC, bytes)?;
+    skip_u16(TpmField::AttestType, CERTIFY, rest)
 }
 
 #[tactic(auto, unfolding(crate::specs::CertInfo::clock_info_at))]
 fn read_clock_info(bytes: &[u8]) -> Begun<'_, ClockInfo>
-    ensures { option_map (λ r. (r.0, r.1.now)) result ≡ clock_info_at bytes.now }
+    ensures { begun (λ r. (r.0, r.1.now)) result ≡ clock_info_at bytes.now }
 {
-    let (clock, rest) = read_u64(bytes)?;
-    let (reset_count, rest) = read_u32(rest)?;
-    let (restart_count, rest) = read_u32(rest)?;
-    let (safe, rest) = read_u8(rest)?;
+    let (clock, rest) = read_u64(TpmField::Clock, bytes)?;
+    let (reset_count, rest) = read_u32(TpmField::ResetCount, rest)?;
+    let (restart_count, rest) = read_u32(TpmField::RestartCount, rest)?;
+    let (safe, rest) = read_u8(TpmField::Safe, rest)?;
     let info = ClockInfo {
         clock,
         reset_count,
         restart_count,
         safe,
     };
-    Some((info, rest))
+    Ok((info, rest))
 }
 
 #[tactic(auto, unfolding(crate::specs::CertInfo::cert_info_at))]
 fn read_cert_info(bytes: &[u8]) -> Begun<'_, CertInfo<'_>>
-    ensures { option_map (λ r. (cert_info_parts r.0, r.1.now)) result ≡ cert_info_at bytes.now }
+    ensures { begun (λ r. (cert_info_parts r.0, r.1.now)) result ≡ cert_info_at bytes.now }
 {
     let rest = read_header(bytes)?;
-    let (qualified_signer, rest) = read_sized(rest)?;
-    let (extra_data, rest) = read_sized(rest)?;
+    let (qualified_signer, rest) = read_sized(TpmField::QualifiedSigner, rest)?;
+    let (extra_data, rest) = read_sized(TpmField::ExtraData, rest)?;
     let (clock_info, rest) = read_clock_info(rest)?;
-    let (firmware_version, rest) = read_u64(rest)?;
-    let (name, rest) = read_sized(rest)?;
-    let (qualified_name, rest) = read_sized(rest)?;
+    let (firmware_version, rest) = read_u64(TpmField::FirmwareVersion, rest)?;
+    let (name, rest) = read_sized(TpmField::Name, rest)?;
+    let (qualified_name, rest) = read_sized(TpmField::QualifiedName, rest)?;
     let info = CertInfo {
         qualified_signer,
         extra_data,
@@ -104,7 +103,31 @@ fn read_cert_info(bytes: &[u8]) -> Begun<'_, CertInfo<'_>>
         name,
         qualified_name,
     };
-    Some((info, rest))
+    Ok((info, rest))
+}
+
+fn read_all(bytes: &[u8]) -> Result<CertInfo<'_>, Stop>
+    ensures { begun cert_info_parts result ≡ cert_info_read bytes.now }
+{
+    let (info, rest) = read_cert_info(bytes)?;
+    if rest.is_empty() {
+        Ok(info)
+    } else {
+        Err(bytes_follow(rest))
+    }
+}
+
+/// Explains why the bytes aren't `certInfo`. Returns `None` exactly if they are, as by
+/// `CertInfo::from_slice`. Allocates nothing. (WebAuthn Level 3, section 8.3; TPM 2.0 Library, Part
+/// 2, TPMS_ATTEST.)
+pub fn explain_cert_info(bytes: &[u8]) -> Option<TpmRefusal>
+    ensures refusal { result ≡ cert_info_refusal bytes.now }
+    ensures exact { is_some result ≡ not (is_some (cert_info_in bytes.now)) }
+{
+    match read_all(bytes) {
+        Ok(_) => None,
+        Err(stop) => Some(refusal_of(bytes.len(), stop)),
+    }
 }
 
 fn push_clock_info(out: &mut Vec<u8>, info: &ClockInfo) -> Result<(), EncodeError>
@@ -123,13 +146,15 @@ impl<'a> CertInfo<'a> {
     /// Decodes `certInfo`, which is all of the bytes: the magic number FF544347, the type 8017,
     /// and the members in their order, all big-endian, a byte string with its length in 2 bytes
     /// before it. Returns `None` exactly if the bytes aren't that: they end within a member, go on
-    /// behind the last, or have another magic number or another type. Allocates nothing. Nothing is
-    /// checked of what the members mean.
+    /// behind the last, or have another magic number or another type: `explain_cert_info` says which.
+    /// Allocates nothing. Nothing is checked of what the members mean.
     pub fn from_slice(bytes: &'a [u8]) -> Option<CertInfo<'a>>
         ensures { option_map cert_info_parts result ≡ cert_info_in bytes.now }
     {
-        let (info, rest) = read_cert_info(bytes)?;
-        if rest.is_empty() { Some(info) } else { None }
+        match read_all(bytes) {
+            Ok(info) => Some(info),
+            Err(_) => None,
+        }
     }
 
     /// Encodes `certInfo`. Returns `TooLong` if a byte string has more than 65535 bytes, and

@@ -1,8 +1,10 @@
 //! Hash algorithms by their TPM_ALG_ID.
-ghost use Rattle.std.specs.Prelude.{◌≡◌, option_map};
+ghost use Rattle.std.specs.Prelude.{◌≡◌};
 ghost use Rattle.passkey_tpm.specs.HashAlgorithm.{hash_at};
+ghost use Rattle.passkey_tpm.specs.Parts.{begun};
 
 use crate::part::{Begun, read_u16};
+use crate::refusal::TpmField;
 
 /// The TPM_ALG_ID of a hash algorithm (TPM 2.0 Library, Part 2, section 6.3). Any number is kept.
 #[derive(Clone, Copy, Debug, PartialEq, Eq)]
@@ -38,9 +40,9 @@ impl HashAlgorithm {
 }
 
 #[tactic(auto, unfolding(crate::specs::HashAlgorithm::hash_at))]
-pub(crate) fn read_hash(bytes: &[u8]) -> Begun<'_, HashAlgorithm>
-    ensures { option_map (λ r. (r.0, r.1.now)) result ≡ hash_at bytes.now }
+pub(crate) fn read_hash(field: TpmField, bytes: &[u8]) -> Begun<'_, HashAlgorithm>
+    ensures { begun (λ r. (r.0, r.1.now)) result ≡ hash_at field bytes.now }
 {
-    let (id, rest) = read_u16(bytes)?;
-    Some((HashAlgorithm(id), rest))
+    let (id, rest) = read_u16(field, bytes)?;
+    Ok((HashAlgorithm(id), rest))
 }

@@ -9,11 +9,13 @@ pub mod laws;
 mod part;
 mod pub_area;
 mod public_key;
+mod refusal;
 mod scheme;
 
-pub use cert_info::{CertInfo, ClockInfo};
+pub use cert_info::{CertInfo, ClockInfo, explain_cert_info};
 pub use encode_error::EncodeError;
 pub use hash_algorithm::HashAlgorithm;
-pub use pub_area::PubArea;
+pub use pub_area::{PubArea, explain_pub_area};
 pub use public_key::{Curve, EccKey, PublicKey, RsaKey};
+pub use refusal::{TpmField, TpmReason, TpmRefusal};
 pub use scheme::{EccScheme, KdfScheme, RsaScheme};

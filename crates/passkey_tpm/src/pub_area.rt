@@ -1,12 +1,14 @@
 //! `pubArea` of a tpm attestation statement.
-ghost use Rattle.std.specs.Prelude.{◌≡◌, ◌≤◌, ◌^◌, ◌⊎◌, length, Err, option_map, IfOk, OnOk};
-ghost use Rattle.passkey_tpm.specs.PubArea.{pub_area_parts, pub_area_at, pub_area_in, pub_area_written, key_parts, IsPubArea, IsLongKey};
+ghost use Rattle.std.specs.Prelude.{◌≡◌, ◌≤◌, ◌^◌, ◌⊎◌, length, not, is_some, Err, option_map, IfOk, OnOk};
+ghost use Rattle.passkey_tpm.specs.Parts.{begun};
+ghost use Rattle.passkey_tpm.specs.PubArea.{pub_area_parts, pub_area_at, pub_area_read, pub_area_in, pub_area_refusal, pub_area_written, key_parts, IsPubArea, IsLongKey};
 ghost use Rattle.passkey_tpm.specs.declared.encode_error.EncodeError.TheVariants.{TooLong};
 
 use crate::hash_algorithm::read_hash;
-use crate::part::{Begun, push_sized, read_sized, read_u16, read_u32};
-use crate::public_key::{push_key, read_key};
-use crate::{EncodeError, HashAlgorithm, PublicKey};
+use crate::part::{Begun, bytes_follow, push_sized, read_sized, read_u32};
+use crate::public_key::{push_key, read_key, read_type};
+use crate::refusal::{Stop, TpmField, refusal_of};
+use crate::{EncodeError, HashAlgorithm, PublicKey, TpmRefusal};
 use std::alloc::Global;
 
 /// `pubArea`: a TPMT_PUBLIC, the public part of a credential's key in the TPM (WebAuthn Level 3,
@@ -26,12 +28,12 @@ pub struct PubArea<'a> {
 
 #[tactic(auto, unfolding(crate::specs::PubArea::pub_area_at))]
 fn read_pub_area(bytes: &[u8]) -> Begun<'_, PubArea<'_>>
-    ensures { option_map (λ r. (pub_area_parts r.0, r.1.now)) result ≡ pub_area_at bytes.now }
+    ensures { begun (λ r. (pub_area_parts r.0, r.1.now)) result ≡ pub_area_at bytes.now }
 {
-    let (kind, rest) = read_u16(bytes)?;
-    let (name_alg, rest) = read_hash(rest)?;
-    let (object_attributes, rest) = read_u32(rest)?;
-    let (auth_policy, rest) = read_sized(rest)?;
+    let (kind, rest) = read_type(bytes)?;
+    let (name_alg, rest) = read_hash(TpmField::NameAlg, rest)?;
+    let (object_attributes, rest) = read_u32(TpmField::ObjectAttributes, rest)?;
+    let (auth_policy, rest) = read_sized(TpmField::AuthPolicy, rest)?;
     let (key, rest) = read_key(kind, rest)?;
     let area = PubArea {
         name_alg,
@@ -39,7 +41,31 @@ fn read_pub_area(bytes: &[u8]) -> Begun<'_, PubArea<'_>>
         auth_policy,
         key,
     };
-    Some((area, rest))
+    Ok((area, rest))
+}
+
+fn read_all(bytes: &[u8]) -> Result<PubArea<'_>, Stop>
+    ensures { begun pub_area_parts result ≡ pub_area_read bytes.now }
+{
+    let (area, rest) = read_pub_area(bytes)?;
+    if rest.is_empty() {
+        Ok(area)
+    } else {
+        Err(bytes_follow(rest))
+    }
+}
+
+/// Explains why the bytes aren't `pubArea`. Returns `None` exactly if they are, as by
+/// `PubArea::from_slice`. Allocates nothing. (WebAuthn Level 3, section 8.3; TPM 2.0 Library, Part 2,
+/// TPMT_PUBLIC.)
+pub fn explain_pub_area(bytes: &[u8]) -> Option<TpmRefusal>
+    ensures refusal { result ≡ pub_area_refusal bytes.now }
+    ensures exact { is_some result ≡ not (is_some (pub_area_in bytes.now)) }
+{
+    match read_all(bytes) {
+        Ok(_) => None,
+        Err(stop) => Some(refusal_of(bytes.len(), stop)),
+    }
 }
 
 impl<'a> PubArea<'a> {
@@ -50,13 +76,15 @@ impl<'a> PubArea<'a> {
     /// a hash algorithm follows that of a scheme which uses one, and `count` follows it for
     /// TPM_ALG_ECDAA. Returns `None` exactly if the bytes aren't that: they end within a member, go on
     /// behind the last, or have another type, a `scheme` or `kdf` that isn't named here, whose
-    /// length isn't known, or another `symmetric` than TPM_ALG_NULL. Allocates nothing. Nothing is
-    /// checked of what the members mean.
+    /// length isn't known, or another `symmetric` than TPM_ALG_NULL: `explain_pub_area` says which.
+    /// Allocates nothing. Nothing is checked of what the members mean.
     pub fn from_slice(bytes: &'a [u8]) -> Option<PubArea<'a>>
         ensures { option_map pub_area_parts result ≡ pub_area_in bytes.now }
     {
-        let (area, rest) = read_pub_area(bytes)?;
-        if rest.is_empty() { Some(area) } else { None }
+        match read_all(bytes) {
+            Ok(area) => Some(area),
+            Err(_) => None,
+        }
     }
 
     /// Encodes `pubArea`. Returns `TooLong` if a byte string has more than 65535 bytes, and

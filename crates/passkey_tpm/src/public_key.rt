@@ -1,10 +1,12 @@
 //! Public keys: the parameters and the unique part of `pubArea`.
-ghost use Rattle.std.specs.Prelude.{◌≡◌, ◌++◌, Err, option_map, OnOk};
-ghost use Rattle.passkey_tpm.specs.PubArea.{rsa_parts, ecc_parts, key_parts, curve_at, null_at, rsa_at, ecc_at, key_at, rsa_written, ecc_written, key_type, key_written, IsRsa, IsEcc, IsKey, IsLongKey};
+ghost use Rattle.std.specs.Prelude.{◌≡◌, ◌++◌, Err, OnOk};
+ghost use Rattle.passkey_tpm.specs.Parts.{begun};
+ghost use Rattle.passkey_tpm.specs.PubArea.{rsa_parts, ecc_parts, key_parts, curve_at, type_at, rsa_at, ecc_at, key_at, rsa_written, ecc_written, key_type, key_written, IsRsa, IsEcc, IsKey, IsLongKey};
 ghost use Rattle.passkey_tpm.specs.PubArea.KeyParts.{rsa, ecc};
 ghost use Rattle.passkey_tpm.specs.declared.encode_error.EncodeError.TheVariants.{TooLong};
 
-use crate::part::{Begun, push_sized, read_sized, read_u16, read_u32};
+use crate::part::{Begun, push_sized, read_sized, read_u16, read_u32, refused, skip_u16};
+use crate::refusal::{TpmField, TpmReason};
 use crate::scheme::{
     NULL, push_ecc_scheme, push_kdf, push_rsa_scheme, read_ecc_scheme, read_kdf, read_rsa_scheme,
 };
@@ -88,48 +90,59 @@ pub enum PublicKey<'a> {
 
 #[tactic(auto, unfolding(crate::specs::PubArea::curve_at))]
 fn read_curve(bytes: &[u8]) -> Begun<'_, Curve>
-    ensures { option_map (λ r. (r.0, r.1.now)) result ≡ curve_at bytes.now }
+    ensures { begun (λ r. (r.0, r.1.now)) result ≡ curve_at bytes.now }
 {
-    let (id, rest) = read_u16(bytes)?;
-    Some((Curve(id), rest))
+    let (id, rest) = read_u16(TpmField::CurveId, bytes)?;
+    Ok((Curve(id), rest))
 }
 
-#[tactic(auto, unfolding(crate::specs::PubArea::null_at))]
-fn read_null(bytes: &[u8]) -> Option<&[u8]>
-    ensures { option_map (λ r. r.now) result ≡ null_at bytes.now }
+/// The type of a key.
+#[derive(Clone, Copy)]
+pub(crate) enum KeyType {
+    Rsa,
+    Ecc,
+}
+
+#[tactic(auto, unfolding(crate::specs::PubArea::type_at))]
+pub(crate) fn read_type(bytes: &[u8]) -> Begun<'_, KeyType>
+    ensures { begun (λ r. (r.0, r.1.now)) result ≡ type_at bytes.now }
 {
-    let (id, rest) = read_u16(bytes)?;
-    if id == NULL { Some(rest) } else { None }
+    let (id, rest) = read_u16(TpmField::KeyType, bytes)?;
+    match id {
+        RSA => Ok((KeyType::Rsa, rest)),
+        ECC => Ok((KeyType::Ecc, rest)),
+        _ => Err(refused(TpmField::KeyType, bytes, 2, TpmReason::Unknown)),
+    }
 }
 
 #[tactic(auto, unfolding(crate::specs::PubArea::rsa_at))]
 fn read_rsa(bytes: &[u8]) -> Begun<'_, RsaKey<'_>>
-    ensures { option_map (λ r. (rsa_parts r.0, r.1.now)) result ≡ rsa_at bytes.now }
+    ensures { begun (λ r. (rsa_parts r.0, r.1.now)) result ≡ rsa_at bytes.now }
 {
-    let rest = read_null(bytes)?;
+    let rest = skip_u16(TpmField::Symmetric, NULL, bytes)?;
     let (scheme, rest) = read_rsa_scheme(rest)?;
-    let (key_bits, rest) = read_u16(rest)?;
-    let (exponent, rest) = read_u32(rest)?;
-    let (modulus, rest) = read_sized(rest)?;
+    let (key_bits, rest) = read_u16(TpmField::KeyBits, rest)?;
+    let (exponent, rest) = read_u32(TpmField::Exponent, rest)?;
+    let (modulus, rest) = read_sized(TpmField::Modulus, rest)?;
     let key = RsaKey {
         scheme,
         key_bits,
         exponent,
         modulus,
     };
-    Some((key, rest))
+    Ok((key, rest))
 }
 
 #[tactic(auto, unfolding(crate::specs::PubArea::ecc_at))]
 fn read_ecc(bytes: &[u8]) -> Begun<'_, EccKey<'_>>
-    ensures { option_map (λ r. (ecc_parts r.0, r.1.now)) result ≡ ecc_at bytes.now }
+    ensures { begun (λ r. (ecc_parts r.0, r.1.now)) result ≡ ecc_at bytes.now }
 {
-    let rest = read_null(bytes)?;
+    let rest = skip_u16(TpmField::Symmetric, NULL, bytes)?;
     let (scheme, rest) = read_ecc_scheme(rest)?;
     let (curve, rest) = read_curve(rest)?;
     let (kdf, rest) = read_kdf(rest)?;
-    let (x, rest) = read_sized(rest)?;
-    let (y, rest) = read_sized(rest)?;
+    let (x, rest) = read_sized(TpmField::X, rest)?;
+    let (y, rest) = read_sized(TpmField::Y, rest)?;
     let key = EccKey {
         scheme,
         curve,
@@ -137,23 +150,22 @@ fn read_ecc(bytes: &[u8]) -> Begun<'_, EccKey<'_>>
         x,
         y,
     };
-    Some((key, rest))
+    Ok((key, rest))
 }
 
 /// The key of this type.
-pub(crate) fn read_key(kind: u16, bytes: &[u8]) -> Begun<'_, PublicKey<'_>>
-    ensures { option_map (λ r. (key_parts r.0, r.1.now)) result ≡ key_at kind bytes.now }
+pub(crate) fn read_key(kind: KeyType, bytes: &[u8]) -> Begun<'_, PublicKey<'_>>
+    ensures { begun (λ r. (key_parts r.0, r.1.now)) result ≡ key_at kind bytes.now }
 {
     match kind {
-        RSA => {
+        KeyType::Rsa => {
             let (key, rest) = read_rsa(bytes)?;
-            Some((PublicKey::Rsa(key), rest))
+            Ok((PublicKey::Rsa(key), rest))
         }
-        ECC => {
+        KeyType::Ecc => {
             let (key, rest) = read_ecc(bytes)?;
-            Some((PublicKey::Ecc(key), rest))
+            Ok((PublicKey::Ecc(key), rest))
         }
-        _ => None,
     }
 }
 

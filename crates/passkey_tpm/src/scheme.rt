@@ -1,12 +1,14 @@
 //! Schemes of keys, and of the derivation of keys.
-ghost use Rattle.std.specs.Prelude.{◌≡◌, ◌++◌, option_map, OnOk};
+ghost use Rattle.std.specs.Prelude.{◌≡◌, ◌++◌, OnOk};
 ghost use Rattle.std.specs.Int.{w16, to_be_bytes};
 ghost use Rattle.passkey_tpm.specs.HashAlgorithm.{IsHash};
+ghost use Rattle.passkey_tpm.specs.Parts.{begun};
 ghost use Rattle.passkey_tpm.specs.Scheme.{rsa_scheme_at, ecdaa_at, ecc_scheme_at, kdf_at, rsa_scheme_written, ecc_scheme_written, kdf_written, hash_written, IsRsaScheme, IsEccScheme, IsKdf};
 
 use crate::HashAlgorithm;
 use crate::hash_algorithm::read_hash;
-use crate::part::{Begun, read_u16};
+use crate::part::{Begun, read_u16, refused};
+use crate::refusal::{TpmField, TpmReason};
 use passkey_memory::OutOfMemory;
 
 /// TPM_ALG_NULL.
@@ -63,93 +65,93 @@ pub enum KdfScheme {
 
 #[tactic(auto, unfolding(crate::specs::Scheme::rsa_scheme_at))]
 pub(crate) fn read_rsa_scheme(bytes: &[u8]) -> Begun<'_, RsaScheme>
-    ensures { option_map (λ r. (r.0, r.1.now)) result ≡ rsa_scheme_at bytes.now }
+    ensures { begun (λ r. (r.0, r.1.now)) result ≡ rsa_scheme_at bytes.now }
 {
-    let (id, rest) = read_u16(bytes)?;
+    let (id, rest) = read_u16(TpmField::Scheme, bytes)?;
     match id {
-        0x0010 => Some((RsaScheme::Null, rest)),
+        0x0010 => Ok((RsaScheme::Null, rest)),
         0x0014 => {
-            let (hash, rest) = read_hash(rest)?;
-            Some((RsaScheme::RsaSsa(hash), rest))
+            let (hash, rest) = read_hash(TpmField::SchemeHash, rest)?;
+            Ok((RsaScheme::RsaSsa(hash), rest))
         }
-        0x0015 => Some((RsaScheme::RsaEs, rest)),
+        0x0015 => Ok((RsaScheme::RsaEs, rest)),
         0x0016 => {
-            let (hash, rest) = read_hash(rest)?;
-            Some((RsaScheme::RsaPss(hash), rest))
+            let (hash, rest) = read_hash(TpmField::SchemeHash, rest)?;
+            Ok((RsaScheme::RsaPss(hash), rest))
         }
         0x0017 => {
-            let (hash, rest) = read_hash(rest)?;
-            Some((RsaScheme::Oaep(hash), rest))
+            let (hash, rest) = read_hash(TpmField::SchemeHash, rest)?;
+            Ok((RsaScheme::Oaep(hash), rest))
         }
-        _ => None,
+        _ => Err(refused(TpmField::Scheme, bytes, 2, TpmReason::Unknown)),
     }
 }
 
 #[tactic(auto, unfolding(crate::specs::Scheme::ecdaa_at))]
 fn read_ecdaa(bytes: &[u8]) -> Begun<'_, EccScheme>
-    ensures { option_map (λ r. (r.0, r.1.now)) result ≡ ecdaa_at bytes.now }
+    ensures { begun (λ r. (r.0, r.1.now)) result ≡ ecdaa_at bytes.now }
 {
-    let (hash, rest) = read_hash(bytes)?;
-    let (count, rest) = read_u16(rest)?;
-    Some((EccScheme::Ecdaa(hash, count), rest))
+    let (hash, rest) = read_hash(TpmField::SchemeHash, bytes)?;
+    let (count, rest) = read_u16(TpmField::SchemeCount, rest)?;
+    Ok((EccScheme::Ecdaa(hash, count), rest))
 }
 
 #[tactic(auto, unfolding(crate::specs::Scheme::ecc_scheme_at))]
 pub(crate) fn read_ecc_scheme(bytes: &[u8]) -> Begun<'_, EccScheme>
-    ensures { option_map (λ r. (r.0, r.1.now)) result ≡ ecc_scheme_at bytes.now }
+    ensures { begun (λ r. (r.0, r.1.now)) result ≡ ecc_scheme_at bytes.now }
 {
-    let (id, rest) = read_u16(bytes)?;
+    let (id, rest) = read_u16(TpmField::Scheme, bytes)?;
     match id {
-        0x0010 => Some((EccScheme::Null, rest)),
+        0x0010 => Ok((EccScheme::Null, rest)),
         0x0018 => {
-            let (hash, rest) = read_hash(rest)?;
-            Some((EccScheme::Ecdsa(hash), rest))
+            let (hash, rest) = read_hash(TpmField::SchemeHash, rest)?;
+            Ok((EccScheme::Ecdsa(hash), rest))
         }
         0x0019 => {
-            let (hash, rest) = read_hash(rest)?;
-            Some((EccScheme::Ecdh(hash), rest))
+            let (hash, rest) = read_hash(TpmField::SchemeHash, rest)?;
+            Ok((EccScheme::Ecdh(hash), rest))
         }
         0x001A => read_ecdaa(rest),
         0x001B => {
-            let (hash, rest) = read_hash(rest)?;
-            Some((EccScheme::Sm2(hash), rest))
+            let (hash, rest) = read_hash(TpmField::SchemeHash, rest)?;
+            Ok((EccScheme::Sm2(hash), rest))
         }
         0x001C => {
-            let (hash, rest) = read_hash(rest)?;
-            Some((EccScheme::EcSchnorr(hash), rest))
+            let (hash, rest) = read_hash(TpmField::SchemeHash, rest)?;
+            Ok((EccScheme::EcSchnorr(hash), rest))
         }
         0x001D => {
-            let (hash, rest) = read_hash(rest)?;
-            Some((EccScheme::EcMqv(hash), rest))
+            let (hash, rest) = read_hash(TpmField::SchemeHash, rest)?;
+            Ok((EccScheme::EcMqv(hash), rest))
         }
-        _ => None,
+        _ => Err(refused(TpmField::Scheme, bytes, 2, TpmReason::Unknown)),
     }
 }
 
 #[tactic(auto, unfolding(crate::specs::Scheme::kdf_at))]
 pub(crate) fn read_kdf(bytes: &[u8]) -> Begun<'_, KdfScheme>
-    ensures { option_map (λ r. (r.0, r.1.now)) result ≡ kdf_at bytes.now }
+    ensures { begun (λ r. (r.0, r.1.now)) result ≡ kdf_at bytes.now }
 {
-    let (id, rest) = read_u16(bytes)?;
+    let (id, rest) = read_u16(TpmField::Kdf, bytes)?;
     match id {
-        0x0010 => Some((KdfScheme::Null, rest)),
+        0x0010 => Ok((KdfScheme::Null, rest)),
         0x0007 => {
-            let (hash, rest) = read_hash(rest)?;
-            Some((KdfScheme::Mgf1(hash), rest))
+            let (hash, rest) = read_hash(TpmField::KdfHash, rest)?;
+            Ok((KdfScheme::Mgf1(hash), rest))
         }
         0x0020 => {
-            let (hash, rest) = read_hash(rest)?;
-            Some((KdfScheme::Kdf1Sp80056a(hash), rest))
+            let (hash, rest) = read_hash(TpmField::KdfHash, rest)?;
+            Ok((KdfScheme::Kdf1Sp80056a(hash), rest))
         }
         0x0021 => {
-            let (hash, rest) = read_hash(rest)?;
-            Some((KdfScheme::Kdf2(hash), rest))
+            let (hash, rest) = read_hash(TpmField::KdfHash, rest)?;
+            Ok((KdfScheme::Kdf2(hash), rest))
         }
         0x0022 => {
-            let (hash, rest) = read_hash(rest)?;
-            Some((KdfScheme::Kdf1Sp800108(hash), rest))
+            let (hash, rest) = read_hash(TpmField::KdfHash, rest)?;
+            Ok((KdfScheme::Kdf1Sp800108(hash), rest))
         }
-        _ => None,
+        _ => Err(refused(TpmField::Kdf, bytes, 2, TpmReason::Unknown)),
     }
 }
 
