@@ -129,10 +129,10 @@ typedef struct {
     uint64_t number;
     /* The offset of the item's first byte. */
     size_t from;
-    /* The offset behind its head: of a string's first byte or chunk, of an array's first element, of a map's first key,
+    /* The offset after its head: of a string's first byte or chunk, of an array's first element, of a map's first key,
        or of a tag's content. */
     size_t content;
-    /* The offset behind its last byte. */
+    /* The offset after its last byte. */
     size_t end;
     /* Its major type, 0 to 7; 8 for a float. */
     uint32_t kind;
@@ -151,7 +151,7 @@ typedef struct {
     size_t public_key;
     /* The map of extension outputs, with texts as keys. */
     size_t extensions;
-    /* The offset behind the last part. */
+    /* The offset after the last part. */
     size_t end;
     /* The signature counter. */
     uint32_t counter;
@@ -162,13 +162,13 @@ typedef struct {
 /* Decodes the input as this kind, encodes the result again, in CTAP2's canonical form or as compact JSON, and writes it
    to the beginning of out and its length to len; and to read how many bytes of the input were decoded: those of the data
    item or the message at its beginning, as puffgrit_item_len counts them; those of authenticator data up to the end of
-   their last part; or all of a JSON text or a structure of a TPM. Bytes behind these are ignored: a caller for whom
-   there must be none compares read with the input's length. Returns PUFFGRIT_OK then; PUFFGRIT_TOO_SHORT, with the
-   length that is needed in len, if the output has fewer bytes; PUFFGRIT_OUT_OF_MEMORY if an allocation fails;
-   PUFFGRIT_UNKNOWN_KIND; or why the input is rejected: its first fault, from PUFFGRIT_FAULT_DECODE_FAILED on, and in the
-   second byte the number of the member that it is about (PUFFGRIT_MEMBER_OF). out stays as it was but for PUFFGRIT_OK,
-   and so do len and read but for PUFFGRIT_OK and PUFFGRIT_TOO_SHORT. All memory that was allocated is freed. (CTAP 2.1,
-   sections 6 and 8; WebAuthn Level 3, sections 5 to 8.) */
+   their last part; or all of a JSON text or a structure of a TPM. Bytes after these are ignored: a caller for whom there
+   must be none compares read with the input's length. Returns PUFFGRIT_OK then; PUFFGRIT_TOO_SHORT, with the length that
+   is needed in len, if the output has fewer bytes; PUFFGRIT_OUT_OF_MEMORY if an allocation fails; PUFFGRIT_UNKNOWN_KIND;
+   or why the input is rejected: its first fault, from PUFFGRIT_FAULT_DECODE_FAILED on, and in the second byte the number
+   of the member that it is about (PUFFGRIT_MEMBER_OF). out stays as it was but for PUFFGRIT_OK, and so do len and read
+   but for PUFFGRIT_OK and PUFFGRIT_TOO_SHORT. All memory that was allocated is freed. (CTAP 2.1, sections 6 and 8;
+   WebAuthn Level 3, sections 5 to 8.) */
 uint32_t puffgrit_rewrite(uint32_t kind, const uint8_t *input, size_t input_len, size_t *read, uint8_t *out, size_t out_len, size_t *len);
 
 /* The version of this interface: 2. A call or a struct that changes raises it. */
@@ -204,7 +204,7 @@ size_t puffgrit_item_len(const uint8_t *bytes, size_t bytes_len);
 puffgrit_bool puffgrit_is_canonical(const uint8_t *bytes, size_t bytes_len);
 
 /* Writes the data item at the offset into item and returns true. Returns false, and leaves item as it was, if no
-   well-formed item of at most 256 levels is there. Bytes behind the item are ignored. (RFC 8949, section 3.) */
+   well-formed item of at most 256 levels is there. Bytes after the item are ignored. (RFC 8949, section 3.) */
 puffgrit_bool puffgrit_item_at(const uint8_t *bytes, size_t bytes_len, size_t offset, puffgrit_item *item);
 
 /* Writes the value of the first member with this integer as its key, in the map at the offset, into value and returns
@@ -219,7 +219,7 @@ puffgrit_bool puffgrit_named(const uint8_t *bytes, size_t bytes_len, size_t map,
 
 /* Writes the parts of the authenticator data at the beginning of the bytes into parts and returns true. Returns false,
    and leaves parts as it was, if a part that the flags announce is cut off, or isn't a well-formed map of at most 256
-   levels where one belongs. Bytes behind the last part are ignored. Neither reserved flags nor the members of the maps
+   levels where one belongs. Bytes after the last part are ignored. Neither reserved flags nor the members of the maps
    are checked. (WebAuthn Level 3, section 6.1.) */
 puffgrit_bool puffgrit_auth_parts(const uint8_t *bytes, size_t bytes_len, puffgrit_auth_data *parts);
 

@@ -6,9 +6,9 @@ export interface Item {
   number: bigint;
   /** The offset of its first byte. */
   from: number;
-  /** The offset behind its head. */
+  /** The offset after its head. */
   content: number;
-  /** The offset behind its last byte. */
+  /** The offset after its last byte. */
   end: number;
 }
 
@@ -22,7 +22,7 @@ export interface AuthParts {
   credentialIdLen: number;
   publicKey: number;
   extensions: number;
-  /** The offset behind the last part. */
+  /** The offset after the last part. */
   end: number;
 }
 

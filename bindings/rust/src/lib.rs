@@ -16,9 +16,9 @@ pub struct Item {
     pub number: u64,
     /// The offset of its first byte.
     pub from: usize,
-    /// The offset behind its head.
+    /// The offset after its head.
     pub content: usize,
-    /// The offset behind its last byte.
+    /// The offset after its last byte.
     pub end: usize,
     /// Its major type, 0 to 7; 8 for a float.
     pub kind: u32,
@@ -33,7 +33,7 @@ pub struct AuthData {
     pub credential_id_len: usize,
     pub public_key: usize,
     pub extensions: usize,
-    /// The offset behind the last part.
+    /// The offset after the last part.
     pub end: usize,
     pub counter: u32,
     pub flags: u32,
@@ -166,7 +166,7 @@ pub fn auth_parts(bytes: &[u8]) -> Option<AuthData> {
 }
 
 /// Decodes the input as the kind, and writes its encoding to the beginning of the output: CTAP2's
-/// canonical form (CTAP 2.1, section 8), or compact JSON. Bytes behind a data item, a message or
+/// canonical form (CTAP 2.1, section 8), or compact JSON. Bytes after a data item, a message or
 /// authenticator data are ignored, and don't count as read.
 pub fn rewrite(kind: Kind, input: &[u8], out: &mut [u8]) -> Result<Lengths, Error> {
     let (mut read, mut len) = (0, 0);

@@ -298,7 +298,7 @@ fn reread(rt: &(impl Abort + AllocGlobal), behind: &[u8]) -> String {
 }
 
 /// What follows the hash, and what `from_slice_exact` returns: the extensions, or the first error,
-/// with loose bytes behind as the last one (WebAuthn Level 3, section 6.1).
+/// with trailing bytes as the last one (WebAuthn Level 3, section 6.1).
 const EXACTLY: &[(&[u8], &str)] = &[
     (b"\x00\0\0\0\0", "None"),
     (b"\x00\0\0\0\0\x00", "DecodeFailed"),

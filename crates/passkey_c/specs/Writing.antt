@@ -9,7 +9,7 @@ pub record Outputs : Type 0 where
   pub out : List ℕ
   pub len : ℕ
 
--- The output begins with the bytes that are wanted, for so many of the input's, and is the same behind them.
+-- The output begins with the bytes that are wanted, for so many of the input's, and is the same after them.
 pub record IsWritten (IsWanted : List ℕ → ℕ → Type 0) (old new : Outputs) : Type 0 where
   pub bytes : List ℕ
   pub wanted : IsWanted bytes new.read

@@ -10,7 +10,7 @@ use std::alloc::Global;
 /// JSON, and writes it to the beginning of `out` and its length to `len`; and to `read` how many bytes
 /// of the input were decoded: those of the data item or the message at its beginning, as
 /// puffgrit_item_len counts them; those of authenticator data up to the end of their last part; or
-/// all of a JSON text or a structure of a TPM. Bytes behind these are ignored: a caller for whom there
+/// all of a JSON text or a structure of a TPM. Bytes after these are ignored: a caller for whom there
 /// must be none compares `read` with the input's length.
 ///
 /// Returns PUFFGRIT_OK then; PUFFGRIT_TOO_SHORT, with the length that is needed in `len`, if the

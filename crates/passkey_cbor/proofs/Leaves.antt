@@ -17,7 +17,7 @@ use Rattle.passkey_cbor.proofs.Binds.{none_is_some, bind_at}
 use Rattle.passkey_cbor.proofs.HeadCounts.{content_there, one_head, one_spans}
 use Rattle.passkey_cbor.proofs.HeadsDecoded.{started, flat_heads, headed_string}
 
--- the only head of a data item, and the content behind it
+-- the only head of a data item, and the content after it
 leaf_head : (bytes rest behind : List ℕ) (n : ℕ) (h : Head) → head_at bytes ≡ Some (h, rest) → content_len h ≡ n
     → n ≤ length rest → drop n rest ≡ behind → after_heads 1 bytes ≡ Some behind
 leaf_head bytes rest behind n h e content within is = one_head bytes rest behind h e

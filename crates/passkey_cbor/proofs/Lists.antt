@@ -13,7 +13,7 @@ use Rattle.passkey_cbor.proofs.Binds.{some_is, none_is_some, bind_some, bind_at}
 use Rattle.passkey_cbor.proofs.HeadAgain.{head_again}
 use Rattle.passkey_cbor.proofs.HeadTakes.{Took, head_takes}
 
--- one more element behind the others
+-- one more element after the others
 pub each_and_one : {A : Type 0} (P : A → Language) (xs : List A) (x : A) (s t : List ℕ) → Each P xs s → P x t
     → Each P (xs ++ x ∷ []) (s ++ t)
 each_and_one P [] x s t e p =

@@ -12,7 +12,7 @@ pub same_behind : (s t u : List ℕ) → s ++ t ≡ s ++ u → t ≡ u
 same_behind [] t u e = e
 same_behind (x ∷ s) t u e = same_behind s t u (let tails : s ++ t ≡ s ++ u = cc in tails)
 
--- ---- names behind references
+-- ---- names after references
 
 position_or_len-map : {X Y : Type 0} (f : X → Y) (p : Y → Bool) (xs : List X)
     → position_or_len (λ x. p (f x)) xs ≡ position_or_len p (map f xs)

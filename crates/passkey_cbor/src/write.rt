@@ -45,7 +45,7 @@ pub(crate) fn push_head(out: &mut Vec<u8>, major: u8, argument: u64) -> Result<(
     }
 }
 
-// The same for an argument behind the initial byte. Not inlined, since most heads have one byte.
+// The same for an argument after the initial byte. Not inlined, since most heads have one byte.
 #[tactic(auto, unfolding(crate::specs::Written::shortest_head))]
 #[inline(never)]
 fn push_long_head(out: &mut Vec<u8>, major: u8, argument: u64) -> Result<(), AllocError>

@@ -10,7 +10,7 @@ use native.Mathlib.Numerals.{unary_clauses}
 use Rattle.passkey_cbor_text.specs.diagnose.Diagnosis.{have_no_items, have_no_pairs, items_text, pairs_text}
 use Rattle.passkey_cbor_text.specs.diagnose.FloatText.{digits_behind, halved_text, quotient_text}
 
--- the digits behind the point, and those that are still to be written
+-- the digits after the point, and those that are still to be written
 pub record WritesDigits (left rest whole count first : ℕ) (old new : List ℕ) : Type 0 where
   pub below : rest < whole
   pub written : new ++ digits_behind left rest whole ≡ old ++ digits_behind count first whole

@@ -34,7 +34,7 @@ abbrev pub WrittenDataAreReadBack : Type 0
 WrittenDataAreReadBack = (d : DataParts) (rest : List ℕ) → IsData d → is_coherent d ≡ true
     → ReadsData (data_written d ++ rest) (Ok (normal_data d))
 
--- What is read exactly is read with bytes behind ignored, too.
+-- What is read exactly is read with trailing bytes ignored, too.
 abbrev pub ExactReadingIsReading : Type 0
 ExactReadingIsReading = (bytes : List ℕ) (d : DataParts) → ReadsDataExactly bytes (Ok d) → ReadsData bytes (Ok d)
 

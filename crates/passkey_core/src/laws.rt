@@ -48,13 +48,13 @@ pub fn written_data_are_read_back()
     passkey_cose::laws::written_key_is_read_back();
 }
 
-/// If bytes decode to data without bytes behind it, they decode to the same data where bytes behind
+/// If bytes decode to data without bytes after it, they decode to the same data where trailing bytes
 /// are ignored.
 pub fn exact_reading_is_reading()
     ensures { ExactReadingIsReading }
 {}
 
-/// The encoding of coherent data decodes to this data exactly, without bytes behind it, in the same
+/// The encoding of coherent data decodes to this data exactly, without bytes after it, in the same
 /// normal form.
 pub fn written_data_are_read_exactly()
     ensures { WrittenDataAreReadExactly }

@@ -1,4 +1,4 @@
--- Tables of members in groups: a number that no member of the first group has leads to the members behind it.
+-- Tables of members in groups: a number that no member of the first group has leads to the members after it.
 use Rattle.passkey_kinds.proofs.Steps.{◌≡◌, ◌==◌, ◌++◌, ℕ, Bool, List, Result, Item, false, arith, refl}
 use Rattle.std.specs.Prelude.{[], ◌∷◌}
 use Rattle.passkey_kinds.specs.Placed.{Placed, fields_with, members_of}
@@ -12,7 +12,7 @@ module _ {P : Type 0} where
   IsNone [] n = Unit {0}
   IsNone (m ∷ ms) n = ((m.member.entry.number == n) ≡ false) × IsNone ms n
 
-  -- what all these tables say of the number is what the members behind say
+  -- what all these tables say of the number is what the members after it say
   abbrev SameBehind : List (Placed P) → List (Placed P) → ℕ → Type 0
   SameBehind ms rest n =
       ((i : Item) → accepts_at (rows_of (members_of (ms ++ rest))) n i ≡ accepts_at (rows_of (members_of rest)) n i)

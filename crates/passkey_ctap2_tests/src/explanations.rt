@@ -50,7 +50,7 @@ fn requests(rt: HostRuntime) {
             "bf017f6161ff0201ff",
             "clientDataHash: a byte string is wanted (offset 7, length 1)",
         ),
-        // a member of a later version, and bytes behind the message
+        // a member of a later version, and bytes after the message
         (
             "a218638101024100ffff",
             "member 1 is missing (offset 0, length 8)",

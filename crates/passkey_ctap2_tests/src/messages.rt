@@ -1,4 +1,4 @@
-//! Messages at a cursor that stands behind another item.
+//! Messages at a cursor that stands after another item.
 use crate::tables::bytes_of;
 use passkey_cbor::Cursor;
 use passkey_extensions::HmacGetSecretInput;

@@ -19,7 +19,7 @@ use Rattle.passkey_kinds.specs.declared.wanted.Wanted.TheVariants as wanted
 
 -- ---- data items
 
--- what is wanted behind a map key of attestation statements (WebAuthn Level 3, section 8)
+-- what is wanted after a map key of attestation statements (WebAuthn Level 3, section 8)
 abbrev pub wanted_by : Item → Wanted
 wanted_by (text_string s) = if bytes_eq s (codes "alg") then wanted.Algorithm else wanted.Any
 wanted_by _ = wanted.Any

@@ -12,7 +12,7 @@ use passkey_kinds::Wanted;
 use passkey_memory::OutOfMemory;
 use std::alloc::Global;
 
-/// Returns what is wanted behind a map key of attestation statements (WebAuthn Level 3, section 8).
+/// Returns what is wanted after a map key of attestation statements (WebAuthn Level 3, section 8).
 fn wanted_by(key: &Value) -> Wanted
     ensures { result ≡ wanted_by (item_of key.now) }
 {

@@ -230,7 +230,7 @@ lies_here d {whole} {i} {p} {bytes} {place} s same from end =
     (subst (λ (n : ℕ). LiesAlong (map step_of p ++ []) whole bytes 0 n (d.extent.offset + d.extent.len)) (sym from)
     (subst (λ (n : ℕ). LiesAlong (map step_of p ++ []) whole bytes 0 place n) (sym end) there))
 
--- behind the head
+-- after the head
 pub head_opens : (whole i : Item) (path : List Step) (bytes : List ℕ) (a b : CursorState) (found : Option Head)
     → a.bytes ≡ bytes → Stands whole path i bytes a.place → FindsHead a b found
     → ((x : Item) (to : ℕ) → IsEncodedAt x a.bytes a.place to → Opens x to b found) → MovesForward a b

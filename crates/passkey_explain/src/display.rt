@@ -4,7 +4,7 @@ use crate::{Blame, DroppedItem, Explanation, Extent, Reason, RefusedItem, Step};
 use passkey_kinds::Fault;
 use std::fmt;
 
-/// Writes a step behind those before it: a member by its name, and an element by its index.
+/// Writes a step after those before it: a member by its name, and an element by its index.
 fn write_step<W: fmt::Write>(
     f: &mut fmt::Formatter<W>,
     is_first: bool,

@@ -37,7 +37,7 @@ abbrev pub cut_off : List ℕ → DataPart → List ℕ → DataRefusal
 cut_off whole p rest =
     record { fault = DecodeFailed; part = p; extent = extent_in whole rest (length rest); reason = reason.CutOff }
 
--- the byte behind the relying party id's hash
+-- the byte after the relying party id's hash
 abbrev pub reserved : DataRefusal
 reserved = record {
   fault = OutOfRangeIntegerValue;
@@ -89,14 +89,14 @@ abbrev pub ◌>>=◌ : {X Y : Type 0} → Result X DataRefusal → (X → Result
 Ok x >>= next = next x
 Err r >>= next = Err r
 
--- the part, of n bytes, and the bytes behind it
+-- the part, of n bytes, and the bytes after it
 abbrev pub part_at : List ℕ → DataPart → ℕ → List ℕ → Result (List ℕ × List ℕ) DataRefusal
 part_at whole p n rest = if nat_lt (length rest) n then Err (cut_off whole p rest) else Ok (take n rest, drop n rest)
 
 abbrev pub known_flags : ℕ → List ℕ → Result (ℕ × List ℕ) DataRefusal
 known_flags flags rest = if bit_and flags reserved_flags == 0 then Ok (flags, rest) else Err reserved
 
--- the flags and the bytes behind the signature counter, as `fixed_at` reads them, or what is refused
+-- the flags and the bytes after the signature counter, as `fixed_at` reads them, or what is refused
 unfoldable pub fixed_in : List ℕ → Result (ℕ × List ℕ) DataRefusal
 fixed_in bytes = do
   hash ← part_at bytes part.RpIdHash 32 bytes
@@ -104,7 +104,7 @@ fixed_in bytes = do
   counter ← part_at bytes part.SignCount 4 flags.1
   known_flags (slice_index flags.0 0) counter.1
 
--- the bytes behind the credential id, as `ids_at` reads it, or what is refused
+-- the bytes after the credential id, as `ids_at` reads it, or what is refused
 unfoldable pub ids_in : List ℕ → List ℕ → Result (List ℕ) DataRefusal
 ids_in whole rest = do
   aaguid ← part_at whole part.Aaguid 16 rest

@@ -50,7 +50,7 @@ fn pass_all(alloc: Global, bytes: &[u8]) -> Result<(), Stop>
 /// Explains why the bytes aren't authenticator data (WebAuthn Level 3, section 6.1). Returns `None`
 /// exactly if they are, as by `AuthenticatorData::from_slice_exact`, and `OutOfMemory` if an
 /// allocation fails. The first refused part is the one to blame; flags are checked after the
-/// lengths of the first three parts, and bytes behind the last part come last.
+/// lengths of the first three parts, and bytes after the last part come last.
 pub fn explain_data(alloc: Global, bytes: &[u8]) -> Result<Option<DataRefusal>, OutOfMemory>
     ensures { IfOk result (ExplainsData bytes.now) }
 {

@@ -9,7 +9,7 @@ use crate::passing::{offset_in, pass_fixed, pass_ids};
 use passkey_cbor::item_len;
 use passkey_core::Flags;
 
-/// Returns the bytes behind the data item that begins them, if one does.
+/// Returns the bytes after the data item that begins them, if one does.
 fn behind_item(bytes: &[u8]) -> &[u8]
     ensures { (x : Item) (len : ℕ) → IsLeadingItem bytes.now x len → result.now ≡ drop len bytes.now }
 {
@@ -19,7 +19,7 @@ fn behind_item(bytes: &[u8]) -> &[u8]
     }
 }
 
-/// Returns the bytes behind the attested credential data that begin the rest, if they do.
+/// Returns the bytes after the attested credential data that begin the rest, if they do.
 fn behind_attested<'a>(whole: &[u8], rest: &'a [u8]) -> &'a [u8]
     ensures { EndsAt (ReadsAttested rest.now) result.now }
 {
@@ -40,7 +40,7 @@ fn behind_attested_where<'a>(is_there: bool, whole: &[u8], rest: &'a [u8]) -> &'
     }
 }
 
-/// Returns the bytes behind the extension outputs that begin the rest, if they are to be there.
+/// Returns the bytes after the extension outputs that begin the rest, if they are to be there.
 fn behind_extensions_where(is_there: bool, rest: &[u8]) -> &[u8]
     ensures { EndsAt (ReadsWhere is_there (ReadsItem read_map) rest.now) result.now }
 {

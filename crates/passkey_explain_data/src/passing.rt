@@ -57,7 +57,7 @@ fn cut_off(whole: &[u8], part: DataPart, rest: &[u8]) -> DataRefusal
     }
 }
 
-/// Returns the part at the beginning of the rest, and the bytes behind it.
+/// Returns the part at the beginning of the rest, and the bytes after it.
 fn chunk_at<'a, const N: usize>(
     whole: &[u8],
     part: DataPart,

@@ -10,9 +10,9 @@ use crate::blames::BlamesRows;
 use crate::explanation::{JsonExplanation, explain_json};
 use crate::wanted::WantedJson;
 use passkey_bytes::Text;
-use passkey_webauthn_json::client_data::{FixedMembers, is_fixed};
 use passkey_json::{JsonFault, holds_float};
 use passkey_memory::OutOfMemory;
+use passkey_webauthn_json::client_data::{FixedMembers, is_fixed};
 use serde_json::{Map, Value};
 use std::alloc::Global;
 

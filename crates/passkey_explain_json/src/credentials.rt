@@ -5,13 +5,13 @@ ghost use Rattle.passkey_explain_json.specs.RowsLaw.{attestation_hold, assertion
 use crate::blame::JsonBlame;
 use crate::blames::{Blames, BlamesRows};
 use passkey_bytes::{Bytes, List, Text};
+use passkey_json::AuthenticationExtensionsClientOutputs;
+use passkey_memory::OutOfMemory;
+use passkey_webauthn::{AuthenticatorTransport, PublicKeyCredentialType};
 use passkey_webauthn_json::credentials::{
     AuthenticatorAssertionResponse, AuthenticatorAttestationResponse, AuthenticatorResponse,
     PublicKeyCredential,
 };
-use passkey_json::AuthenticationExtensionsClientOutputs;
-use passkey_memory::OutOfMemory;
-use passkey_webauthn::{AuthenticatorTransport, PublicKeyCredentialType};
 use serde_json::Value;
 use std::alloc::Global;
 

@@ -3,7 +3,7 @@
 use crate::blame::{JsonBlame, JsonReason, JsonStep};
 use std::fmt;
 
-/// Writes a step behind those before it: a member by its name, and an element by its index.
+/// Writes a step after those before it: a member by its name, and an element by its index.
 fn write_step<W: fmt::Write>(
     f: &mut fmt::Formatter<W>,
     is_first: bool,

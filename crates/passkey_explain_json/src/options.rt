@@ -9,11 +9,11 @@ use passkey_json::{
     AuthenticationExtensionsClientInputs, AuthenticatorSelectionCriteria, TolerantList,
 };
 use passkey_memory::OutOfMemory;
-use passkey_webauthn_json::options::{
-    CredentialOptions, PublicKeyCredentialCreationOptions, PublicKeyCredentialRequestOptions,
-};
 use passkey_webauthn::{
     PublicKeyCredentialParameters, PublicKeyCredentialRpEntity, PublicKeyCredentialUserEntity,
+};
+use passkey_webauthn_json::options::{
+    CredentialOptions, PublicKeyCredentialCreationOptions, PublicKeyCredentialRequestOptions,
 };
 use serde_json::Value;
 use std::alloc::Global;

@@ -16,7 +16,7 @@ pub enum Frame {
     None,
     /// The status code of a response, CTAP2_OK.
     Success,
-    /// The status code of a response, with its name. Nothing is behind it.
+    /// The status code of a response, with its name. Nothing is after it.
     Failure(u8, &'static str),
     /// The command of a request.
     Command(Command),
@@ -30,9 +30,9 @@ fn is_body(bytes: &[u8]) -> bool {
     }
 }
 
-/// Returns what stands before a message, and lends the bytes behind it. It is a status code if the
+/// Returns what stands before a message, and lends the bytes after it. It is a status code if the
 /// first byte is 0, or a command if it is one that the standard names; and no bytes, or a map, are
-/// behind it. A byte alone that isn't a command is a status code, if that has a name: it may be a
+/// after it. A byte alone that isn't a command is a status code, if that has a name: it may be a
 /// data item, too, and is lent as one.
 pub fn frame_of(bytes: &[u8]) -> (Frame, &[u8])
     ensures { IsMessageIn bytes.now result.1.now }

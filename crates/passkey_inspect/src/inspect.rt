@@ -196,7 +196,7 @@ fn report_text(
     }
     if len < body.bytes.len() {
         let rest = body.bytes.len() - len;
-        text.push_str(format!(in alloc; "bytes behind it: {rest}\n")?.as_str())?;
+        text.push_str(format!(in alloc; "trailing bytes: {rest}\n")?.as_str())?;
     }
     Ok(text)
 }

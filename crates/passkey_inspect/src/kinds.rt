@@ -44,7 +44,7 @@ fn kind_line(alloc: Global, place: usize) -> Result<String, OutOfMemory>
     }
 }
 
-/// Returns a line for each kind, in the order of their numbers in C, and behind them those without
+/// Returns a line for each kind, in the order of their numbers in C, and after them those without
 /// one: the name, the number or a hyphen, `bytes` or `JSON`, and the standard with its section, a tab
 /// between them.
 pub fn all_kinds_text(alloc: Global) -> Result<String, OutOfMemory>

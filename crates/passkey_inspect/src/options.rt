@@ -156,7 +156,7 @@ fn set_operand<'a>(options: &mut Options<'a>, word: &'a str) -> bool {
 }
 
 /// Returns the options, or `None` if an argument is none, or is one too many. `-h`, and a word that
-/// begins with two hyphens, is an option; `--from` has a value behind it or an equals sign, and the
+/// begins with two hyphens, is an option; `--from` has a value after it or an equals sign, and the
 /// last of contradicting options is taken. The first operand that is the name of a kind is the kind,
 /// and another is the file.
 pub fn options_of(words: &[String]) -> Option<Options<'_>> {

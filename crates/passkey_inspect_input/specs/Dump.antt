@@ -1,4 +1,4 @@
--- The digits in a dump by `xxd` or by `hexdump -C`: of each line what is behind the offset and before the text.
+-- The digits in a dump by `xxd` or by `hexdump -C`: of each line what is after the offset and before the text.
 use Rattle.std.specs.Prelude.{ℕ, List, [], ◌∷◌, Bool, true, false, not, ◌==◌, ◌&&◌, ◌||◌, if◌then◌else◌}
 use Rattle.passkey_inspect_input.specs.declared.dump.Place.{Place}
 use Rattle.passkey_inspect_input.specs.declared.dump.Place.TheVariants.{Offset, Digits, Gap, Barred, Text}
@@ -14,7 +14,7 @@ is_dump input =
     begins_with (48 ∷ 48 ∷ 48 ∷ 48 ∷ 48 ∷ 48 ∷ 48 ∷ 48 ∷ 58 ∷ []) input
     || begins_with (48 ∷ 48 ∷ 48 ∷ 48 ∷ 48 ∷ 48 ∷ 48 ∷ 48 ∷ 32 ∷ 32 ∷ []) input
 
--- the place of the byte behind this one, in the same line: behind a colon two spaces end the digits, else a bar
+-- the place of the byte after this one, in the same line: after a colon two spaces end the digits, else a bar
 abbrev pub next_in_line : Place → ℕ → Place
 next_in_line Offset byte = if byte == 58 then Digits else if byte == 32 then Barred else Offset
 next_in_line Digits byte = if byte == 32 then Gap else Digits

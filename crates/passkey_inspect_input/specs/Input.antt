@@ -46,7 +46,7 @@ symbol_text byte = if is_space byte || byte == 34 || byte == 44 then [] else enc
 abbrev pub base64_bytes : List ℕ → Option (List ℕ)
 base64_bytes input = base64url_bytes (flat_map symbol_text input)
 
--- the first byte behind white space is a brace
+-- the first byte after white space is a brace
 abbrev pub begins_json : List ℕ → Bool
 begins_json [] = false
 begins_json (byte ∷ rest) = if is_space byte then begins_json rest else byte == 123

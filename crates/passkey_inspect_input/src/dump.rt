@@ -10,11 +10,11 @@ use std::alloc::{AllocError, Global};
 enum Place {
     /// In the offset, with which the line begins.
     Offset,
-    /// Behind an offset with a colon, among digits: two spaces end them.
+    /// After an offset with a colon, among digits: two spaces end them.
     Digits,
-    /// The same, behind a space.
+    /// The same, after a space.
     Gap,
-    /// Behind an offset without a colon, among digits: a bar ends them.
+    /// After an offset without a colon, among digits: a bar ends them.
     Barred,
     /// In the text, with which the line ends.
     Text,
@@ -44,7 +44,7 @@ pub(crate) fn is_dump(input: &[u8]) -> bool
     begins_with(b"00000000:", input) || begins_with(b"00000000  ", input)
 }
 
-/// Returns the place of the byte behind this one.
+/// Returns the place of the byte after this one.
 fn next_place(place: Place, byte: u8) -> Place
     ensures { result ≡ next_place place byte }
 {

@@ -120,7 +120,7 @@ pub fn from_base64(alloc: Global, input: &[u8]) -> Result<Option<Vec<u8>>, OutOf
     encoding::try_from_base64url(alloc, text.as_str())
 }
 
-/// Returns whether the first byte behind white space begins an object of JSON.
+/// Returns whether the first byte after white space begins an object of JSON.
 fn begins_json(input: &[u8]) -> bool
     ensures { result ≡ begins_json input.now }
 {

@@ -4,9 +4,9 @@
 use crate::json::{assert_shows, displayed, parsed};
 use indexmap::IndexMap;
 use passkey_bytes::Text;
-use passkey_webauthn_json::client_data::{ClientDataExtra, ClientDataType, CollectedClientData};
 use passkey_json::{JsonFault, Object};
 use passkey_memory::OutOfMemory;
+use passkey_webauthn_json::client_data::{ClientDataExtra, ClientDataType, CollectedClientData};
 use serde_json::Value;
 use std::alloc::Global;
 use std::marker::Model;

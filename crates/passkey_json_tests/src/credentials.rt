@@ -1,11 +1,11 @@
 //! What a browser returns (WebAuthn Level 3, section 5.1), worked out by hand. The rows of the
 //! program contain whole credentials and their faults.
 use crate::json::{assert_reads, assert_rewrites, assert_shows, record, written};
+use passkey_json::BytesForm::{Base64Url, Numbers};
 use passkey_webauthn_json::credentials::{
     AuthenticatedPublicKeyCredential, AuthenticatorAssertionResponse,
     AuthenticatorAttestationResponse, CreatedPublicKeyCredential,
 };
-use passkey_json::BytesForm::{Base64Url, Numbers};
 use std::process::Abort;
 
 #[test]

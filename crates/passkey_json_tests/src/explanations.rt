@@ -1,7 +1,7 @@
 //! Where JSON values are refused, and why.
 use crate::json::parsed;
-use passkey_webauthn_json::credentials::CreatedPublicKeyCredential;
 use passkey_explain_json::{BlamesRows, JsonExplanation, explain_client_data, explain_json};
+use passkey_webauthn_json::credentials::CreatedPublicKeyCredential;
 use passkey_webauthn_json::options::{CredentialCreationOptions, CredentialRequestOptions};
 use std::process::Abort;
 use std::test::Fail;

@@ -1,14 +1,14 @@
 //! The names of values in WebAuthn Level 3.
 use crate::json::{assert_shows, debugged, displayed};
-use passkey_webauthn_json::client_data::ClientDataType;
 use passkey_json::{
     AuthenticatorAttachment, ResidentKeyRequirement, UserVerificationRequirement as Verification,
 };
+use passkey_webauthn::EnumNames;
+use passkey_webauthn_json::client_data::ClientDataType;
 use passkey_webauthn_json::options::{
     AttestationConveyancePreference as Conveyance, AttestationStatementFormatIdentifiers as Format,
     PublicKeyCredentialHints as Hint,
 };
-use passkey_webauthn::EnumNames;
 use std::fmt::{Debug, Display};
 use std::process::Abort;
 

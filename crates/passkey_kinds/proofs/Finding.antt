@@ -93,7 +93,7 @@ pub value_behind : (n : ℕ) (key : Named) (i : Item) (others : Option Item) →
     → value_if n (named_as key) i others ≡ others
 value_behind n key i others e = grind arith
 
--- the first member's value is wanted, or one behind it
+-- the first member's value is wanted, or one after it
 pub row_here : (n : ℕ) (key : Named) (Here Behind : Type 0) → is_row n (named_as key) ≡ true → Here
     → IfRow n (named_as key) Here Behind
 row_here n (Row k) Here Behind is h = rw is h

@@ -229,14 +229,14 @@ in_array g = record {
   walked = λ before after old new found walks. walks.items;
 }
 
--- behind the others
+-- after the others
 abbrev pub pushed : {M : Type 0} → Kind M → Item → List M → Option (List M)
 pushed kind i xs = option_map (λ x. xs ++ x ∷ []) (kind i)
 
 abbrev pub pushing : {M : Type 0} → Typed M → Gathering (List M)
 pushing k = record { next = pushed k.of; takes = true; cost = k.cost; keeps = k.keeps }
 
--- behind the others, unless the kind refuses it
+-- after the others, unless the kind refuses it
 abbrev pub pushed_if : {M : Type 0} → Kind M → Item → List M → Option (List M)
 pushed_if kind i xs = Some (xs ++ cons_option (kind i) [])
 
@@ -244,7 +244,7 @@ abbrev pub pushing_if : {M : Type 0} → Typed M → Gathering (List M)
 pushing_if k =
     record { next = pushed_if k.of; takes = true; cost = suc k.cost; keeps = if_accepted k.of k.keeps }
 
--- behind the others, of which there are fewer than n
+-- after the others, of which there are fewer than n
 abbrev pub pushed_below : {M : Type 0} → ℕ → Kind M → Item → List M → Option (List M)
 pushed_below n kind i xs = if nat_lt (length xs) n then pushed kind i xs else None
 

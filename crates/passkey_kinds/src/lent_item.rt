@@ -48,7 +48,7 @@ pub fn lend_item<R: Record>(bytes: &[u8], number: u8) -> Option<&[u8]>
 }
 
 /// Returns these bytes, followed by what `lend_item` lends, if anything: many signatures are over a
-/// part of a message behind other bytes. Returns `OutOfMemory` if an allocation fails.
+/// part of a message after other bytes. Returns `OutOfMemory` if an allocation fails.
 pub fn followed_by_item<R: Record>(
     alloc: Global,
     front: &[u8],

@@ -20,7 +20,7 @@ pub struct AuthData {
     pub public_key: usize,
     /// The map of extension outputs, with texts as keys.
     pub extensions: usize,
-    /// The offset behind the last part.
+    /// The offset after the last part.
     pub end: usize,
     /// The signature counter.
     pub counter: u32,
@@ -98,7 +98,7 @@ fn parts_of(view: DataView) -> AuthData
 
 /// Writes the parts of the authenticator data at the beginning of the bytes into `parts` and returns
 /// true. Returns false, and leaves `parts` as it was, if a part that the flags announce is cut off,
-/// or isn't a well-formed map of at most 256 levels where one belongs. Bytes behind the last part are
+/// or isn't a well-formed map of at most 256 levels where one belongs. Bytes after the last part are
 /// ignored. Neither reserved flags nor the members of the maps are checked. (WebAuthn Level 3,
 /// section 6.1.)
 #[unsafe(no_mangle)]

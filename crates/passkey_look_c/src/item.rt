@@ -21,10 +21,10 @@ pub struct Item {
     pub number: u64,
     /// The offset of the item's first byte.
     pub from: usize,
-    /// The offset behind its head: of a string's first byte or chunk, of an array's first element, of
+    /// The offset after its head: of a string's first byte or chunk, of an array's first element, of
     /// a map's first key, or of a tag's content.
     pub content: usize,
-    /// The offset behind its last byte.
+    /// The offset after its last byte.
     pub end: usize,
     /// Its major type, 0 to 7; 8 for a float.
     pub kind: u32,
@@ -115,7 +115,7 @@ pub extern "C" fn puffgrit_is_canonical(bytes: &[u8]) -> bool
 }
 
 /// Writes the data item at the offset into `item` and returns true. Returns false, and leaves `item`
-/// as it was, if no well-formed item of at most 256 levels is there. Bytes behind the item are
+/// as it was, if no well-formed item of at most 256 levels is there. Bytes after the item are
 /// ignored. (RFC 8949, section 3.)
 #[unsafe(no_mangle)]
 pub extern "C" fn puffgrit_item_at(bytes: &[u8], offset: usize, item: &mut Item) -> bool

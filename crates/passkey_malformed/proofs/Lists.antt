@@ -10,7 +10,7 @@ use Rattle.passkey_cbor.proofs.Items.{follows_item}
 use Rattle.passkey_cbor.proofs.Lists.{each_and_one, Follows, encoded_long, each_long}
 use Rattle.passkey_malformed.specs.Stops.{Begins, ItemLeads}
 
--- ---- one more behind the others
+-- ---- one more after the others
 
 pub none_yet : {A : Type 0} (P : A → Language) (bytes : List ℕ) → Begins (Each P []) bytes bytes
 none_yet P bytes = record { text = []; encoded = refl; parts = refl }
@@ -47,7 +47,7 @@ items_long levels xs bytes rest b = omega (
 
 -- ---- the end of a list
 
--- The list of this length ends behind n elements.
+-- The list of this length ends after n elements.
 abbrev pub Ends : Option ℕ → ℕ → List ℕ → List ℕ → Type 0
 Ends (Some m) n here rest = (m ≡ n) × (rest ≡ here)
 Ends None n here rest = here ≡ break ∷ rest

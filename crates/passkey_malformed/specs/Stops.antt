@@ -83,7 +83,7 @@ NoPiece is_text n bytes reason.TooDeep rest = ⊥
 NoPiece is_text n bytes reason.OddMap rest = ⊥
 NoPiece is_text n bytes reason.BadSimple rest = ⊥
 
--- Behind a head, `behind` doesn't go on with the content of a chunk, whose length is known if it is a chunk's head.
+-- After a head, `behind` doesn't go on with the content of a chunk, whose length is known if it is a chunk's head.
 abbrev pub NoChunkBehind : Bool → Option ℕ → List ℕ → List ℕ → Why → List ℕ → Type 0
 NoChunkBehind is_text (Some n) here behind why rest = NoPiece is_text n behind why rest
 NoChunkBehind is_text None here behind why rest = (why ≡ reason.BadChunk) × (rest ≡ here)
@@ -98,7 +98,7 @@ pub data NoChunk (is_text : Bool) (here : List ℕ) (why : Why) (rest : List ℕ
 abbrev pub Chunks : Bool → List (List ℕ) → Language
 Chunks is_text = Each (Definite (IsAllowed is_text) (major_type is_text))
 
--- Behind whole chunks of a string, neither another one nor a break follows.
+-- After whole chunks of a string, neither another one nor a break follows.
 pub record StopsInChunks (is_text : Bool) (bytes : List ℕ) (why : Why) (rest : List ℕ) : Type 0 where
   pub chunks : List (List ℕ)
   pub here : List ℕ
@@ -122,11 +122,11 @@ abbrev pub items_in : Bool → ℕ → ℕ
 items_in false n = n
 items_in true n = 2 * n
 
--- a value belongs behind n data items of a map
+-- a value belongs after n data items of a map
 abbrev pub awaits_value : Bool → ℕ → Bool
 awaits_value is_map n = is_map && (n % 2 == 1)
 
--- another data item belongs to an array or a map of this length, behind n data items, which `here` follows
+-- another data item belongs to an array or a map of this length, after n data items, which `here` follows
 abbrev pub wants : Bool → Option ℕ → ℕ → List ℕ → Bool
 wants is_map (Some m) n here = nat_lt n (items_in is_map m)
 wants is_map None n here = awaits_value is_map n || goes_on None here
@@ -173,7 +173,7 @@ pub data Stops : ℕ → Why → List ℕ → Why → List ℕ → Type 0 where
   -- a break
   at_stray : {levels : ℕ} {why : Why} {bytes : List ℕ} (behind : List ℕ)
       → Begins (IsEncodingOfHead head.Break) bytes behind → Stops levels why bytes why bytes
-  -- the head of a string, and behind it less than its content
+  -- the head of a string, and after it less than its content
   in_string : {levels : ℕ} {at_break why : Why} {bytes rest : List ℕ} (is_text : Bool) (len : Option ℕ)
       (behind : List ℕ) → Begins (IsEncodingOfHead (string_head is_text len)) bytes behind
       → StopsInString is_text len behind why rest → Stops levels at_break bytes why rest
@@ -181,7 +181,7 @@ pub data Stops : ℕ → Why → List ℕ → Why → List ℕ → Type 0 where
   too_deep : {levels : ℕ} {at_break why : Why} {bytes rest : List ℕ} (h : Head) (behind : List ℕ) → Nests h
       → Begins (IsEncodingOfHead h) bytes behind → IsTooDeep levels bytes why rest
       → Stops levels at_break bytes why rest
-  -- the head of an array or a map, whole data items behind it, and a stop in the next one
+  -- the head of an array or a map, whole data items after it, and a stop in the next one
   in_list : {levels inner : ℕ} {at_break why : Why} {bytes rest : List ℕ} (is_map : Bool) (len : Option ℕ)
       (behind here : List ℕ) (items : List Item) → levels ≡ suc inner
       → Begins (IsEncodingOfHead (list_head is_map len)) bytes behind
@@ -192,7 +192,7 @@ pub data Stops : ℕ → Why → List ℕ → Why → List ℕ → Type 0 where
       → levels ≡ suc inner → Begins (IsEncodingOfHead (head.Tag n)) bytes behind
       → Stops inner reason.StrayBreak behind why rest → Stops levels at_break bytes why rest
 
--- Behind the head of an array or a map, and whole data items in it, a stop in the next one.
+-- After the head of an array or a map, and whole data items in it, a stop in the next one.
 pub record StopsInList (is_map : Bool) (len : Option ℕ) (levels : ℕ) (bytes : List ℕ) (why : Why) (rest : List ℕ) :
     Type 0 where
   pub items : List Item

@@ -27,7 +27,7 @@ pub(crate) fn cut_off(bytes: &[u8]) -> Stop<'_>
     }
 }
 
-/// Returns the head at the beginning of the bytes and the bytes behind it, or why none is there.
+/// Returns the head at the beginning of the bytes and the bytes after it, or why none is there.
 pub(crate) fn behind_head(bytes: &[u8]) -> Result<(Head, &[u8]), Stop<'_>>
     ensures { MatchResult result (λ r. Begins (IsEncodingOfHead r.0) bytes.now r.1.now)
         (λ s. NoHead bytes.now s.why s.rest.now) }

@@ -12,7 +12,7 @@ use passkey_cbor::Head;
 /// The initial byte of a break (RFC 8949, section 3.2.1).
 const BREAK: u8 = 0xff;
 
-/// Returns whether a value belongs behind so many data items of a map.
+/// Returns whether a value belongs after so many data items of a map.
 fn awaits_value(is_map: bool, passed: usize) -> bool
     ensures { result ≡ awaits_value is_map passed }
 {
@@ -26,7 +26,7 @@ fn goes_on(bytes: &[u8]) -> bool
     bytes.is_empty() || bytes[0] != BREAK
 }
 
-/// Returns whether another data item belongs to an array or a map of this length, behind so many.
+/// Returns whether another data item belongs to an array or a map of this length, after so many.
 fn wants(is_map: bool, len: Option<u64>, passed: usize, here: &[u8]) -> bool
     ensures { result ≡ wants is_map len passed here.now }
 {
@@ -59,8 +59,8 @@ fn break_in(is_map: bool, len: Option<u64>, passed: usize) -> Why
     }
 }
 
-/// Returns the bytes behind the data items of an array or a map of this length, each of at most
-/// `levels` levels, and behind the break if the length is indefinite.
+/// Returns the bytes after the data items of an array or a map of this length, each of at most
+/// `levels` levels, and after the break if the length is indefinite.
 #[cycle(items)]
 fn behind_list(
     is_map: bool,
@@ -97,7 +97,7 @@ fn too_deep(bytes: &[u8]) -> Stop<'_>
     }
 }
 
-/// Returns the bytes behind a data item of at most `levels` levels, or why none is there: `at_break`
+/// Returns the bytes after a data item of at most `levels` levels, or why none is there: `at_break`
 /// if a break is.
 #[cycle(items)]
 pub(crate) fn behind_item(bytes: &[u8], levels: usize, at_break: Why) -> Result<&[u8], Stop<'_>>

@@ -9,7 +9,7 @@ use crate::why::Why;
 use passkey_cbor::Head;
 use std::str;
 
-/// Returns the bytes behind the content of a string, or of a chunk, of this length.
+/// Returns the bytes after the content of a string, or of a chunk, of this length.
 fn behind_piece(is_text: bool, len: u64, bytes: &[u8]) -> Result<&[u8], Stop<'_>>
     ensures { MatchResult result (λ rest. StringLeads is_text (Known len) bytes.now rest.now)
         (λ stop. NoPiece is_text len bytes.now stop.why stop.rest.now) }
@@ -28,7 +28,7 @@ fn behind_piece(is_text: bool, len: u64, bytes: &[u8]) -> Result<&[u8], Stop<'_>
     Ok(rest)
 }
 
-/// Returns the bytes behind the chunks of a string and their break.
+/// Returns the bytes after the chunks of a string and their break.
 fn behind_chunks(is_text: bool, bytes: &[u8]) -> Result<&[u8], Stop<'_>>
     ensures { MatchResult result (λ rest. StringLeads is_text Unknown bytes.now rest.now)
         (λ stop. StopsInChunks is_text bytes.now stop.why stop.rest.now) }
@@ -57,7 +57,7 @@ fn behind_chunks(is_text: bool, bytes: &[u8]) -> Result<&[u8], Stop<'_>>
     }
 }
 
-/// Returns the bytes behind a string whose head has this length.
+/// Returns the bytes after a string whose head has this length.
 pub(crate) fn behind_string(
     is_text: bool,
     len: Option<u64>,

@@ -31,7 +31,7 @@ pub none_is_listed_if_none_fits : NoneIsListedIfNoneFits
 none_is_listed_if_none_fits [] i = (λ h. tt, λ h. refl)
 none_is_listed_if_none_fits (e ∷ es) i = none_from e es i (edited e i) refl (none_is_listed_if_none_fits es i)
 
--- ---- a repaired item, whose edits come behind these
+-- ---- a repaired item, whose edits come after these
 
 abbrev pub behind : List Edit → Repaired → Repaired
 behind es r = record { item = r.item; edits = es ++ r.edits }

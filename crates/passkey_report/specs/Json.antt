@@ -93,8 +93,8 @@ closing _ = 125
 abbrev pub comma_if : Bool → List ℕ
 comma_if is_first = if is_first then [] else 44 ∷ []
 
--- The text of a description: an array of elements, or an object of members, of which the first stands behind the second
--- argument and the others behind a comma.
+-- The text of a description: an array of elements, or an object of members, of which the first stands after the second
+-- argument and the others after a comma.
 abbrev mutual
   pub json_text : Described → List ℕ
   json_text (leaf w i) = leaf_json w i

@@ -74,7 +74,7 @@ fn is_empty(description: &Description) -> bool {
     }
 }
 
-/// Appends what is behind a name: in the same line, or in lines of its own that begin with a deeper
+/// Appends what is after a name: in the same line, or in lines of its own that begin with a deeper
 /// margin.
 #[cycle(report)]
 fn push_value(

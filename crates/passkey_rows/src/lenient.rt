@@ -9,7 +9,7 @@ use passkey_types::ctap2::{Message, credential_management, get_assertion, make_c
 use std::alloc::Global;
 use std::fmt::Display;
 
-/// Returns the repairs that were made, each with a semicolon behind it.
+/// Returns the repairs that were made, each with a semicolon after it.
 pub fn listed<R: Display>(alloc: Global, repairs: &[R]) -> Result<String, OutOfMemory> {
     let mut out = String::new(alloc);
     for repair in repairs {

@@ -34,7 +34,7 @@ fn lenient<R: RepairsJson + ToJson>(alloc: Global, text: &str) -> Result<String,
     Ok(text?)
 }
 
-/// `TEXT`: client data behind a byte order mark or none, decoded and encoded.
+/// `TEXT`: client data after a byte order mark or none, decoded and encoded.
 fn client_data(alloc: Global, text: &str) -> Result<String, RunFault> {
     let bytes = without_byte_order_mark(text.as_bytes());
     let data: CollectedClientData = match CollectedClientData::from_slice(alloc, bytes) {

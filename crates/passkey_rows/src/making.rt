@@ -138,7 +138,7 @@ fn map_of(alloc: Global, tries: &mut Tries, input: &str) -> Result<Map<Bytes, Te
     Ok(map)
 }
 
-/// Returns an entry behind a space, but for the first one.
+/// Returns an entry after a space, but for the first one.
 fn entry_text(
     alloc: Global,
     is_first: bool,

@@ -13,7 +13,7 @@ use passkey_types::{OutOfMemory, Text};
 use std::alloc::Global;
 
 /// A protocol without cryptography: the shared secret is one byte, 0x55, the platform's key is that of
-/// the authenticator, and what is encrypted, decrypted or authenticated is shown behind its secret or
+/// the authenticator, and what is encrypted, decrypted or authenticated is shown after its secret or
 /// key.
 struct Shown;
 

@@ -44,7 +44,7 @@ impl<'a> Visitor for Rewriting<'a> {
     }
 }
 
-/// Decodes the bytes as the kind and encodes the result. Bytes behind it are ignored. If the kind
+/// Decodes the bytes as the kind and encodes the result. Bytes after it are ignored. If the kind
 /// rejects the bytes, returns `MessageRefused` for a message and else `Refused`. Returns
 /// `OutOfMemory` if an allocation fails.
 pub fn rewrite_raw(alloc: Global, kind: BytesKind, bytes: &[u8]) -> Result<Vec<u8>, RunFault>

@@ -146,7 +146,7 @@ impl<'a> CertInfo<'a> {
     /// Decodes `certInfo`, which is all of the bytes: the magic number FF544347, the type 8017,
     /// and the members in their order, all big-endian, a byte string with its length in 2 bytes
     /// before it. Returns `None` exactly if the bytes aren't that: they end within a member, go on
-    /// behind the last, or have another magic number or another type: `explain_cert_info` says which.
+    /// after the last, or have another magic number or another type: `explain_cert_info` says which.
     /// Allocates nothing. Nothing is checked of what the members mean.
     pub fn from_slice(bytes: &'a [u8]) -> Option<CertInfo<'a>>
         ensures { option_map cert_info_parts result ≡ cert_info_in bytes.now }

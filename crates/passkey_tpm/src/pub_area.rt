@@ -75,7 +75,7 @@ impl<'a> PubArea<'a> {
     /// elliptic curve (type 0023) `symmetric`, `scheme`, `curveID`, `kdf`, x and y. The TPM_ALG_ID of
     /// a hash algorithm follows that of a scheme which uses one, and `count` follows it for
     /// TPM_ALG_ECDAA. Returns `None` exactly if the bytes aren't that: they end within a member, go on
-    /// behind the last, or have another type, a `scheme` or `kdf` that isn't named here, whose
+    /// after the last, or have another type, a `scheme` or `kdf` that isn't named here, whose
     /// length isn't known, or another `symmetric` than TPM_ALG_NULL: `explain_pub_area` says which.
     /// Allocates nothing. Nothing is checked of what the members mean.
     pub fn from_slice(bytes: &'a [u8]) -> Option<PubArea<'a>>

@@ -20,7 +20,7 @@ use Rattle.passkey_view.specs.declared.item_view.ItemView.{ItemView}
 use Rattle.passkey_view.specs.ItemView.{IsViewOf, HasItemAt, HasNoItemAt, IsOpened}
 use Rattle.passkey_view.specs.Member.{Members, PassedKey, PassesKey, HasNoKey, IsFirstAmong, FindsAmong, HasMember, HasNoMember}
 
--- ---- one more element behind the others
+-- ---- one more element after the others
 
 lies_and_one : {A : Type 0} (P : A → Language) (xs : List A) (x : A) (bytes : List ℕ) (from middle to : ℕ)
     → Lies (Each P xs) bytes from middle → Lies (P x) bytes middle to → Lies (Each P (xs ++ x ∷ [])) bytes from to
@@ -200,7 +200,7 @@ found_among key x ms bytes offset view v e (Some w) f = record {
   is_first = f;
 }
 
--- what is found behind the head of the map is found in the map
+-- what is found after the head of the map is found in the map
 pub found_in_map : (key x : Item) (left : Option ℕ) (view : ItemView) (found : Option ItemView) (a b : CursorState)
     → IsViewOf x a.bytes a.place view → view.head ≡ head.Map left → IsOpened a b view
     → ((ms : Members) (to : ℕ) → PairsAreEncodedAt left ms b.bytes b.place to

@@ -25,7 +25,7 @@ pub record IsMapAt (bytes : List ℕ) (offset : ℕ) (v : ItemView) : Type 0 whe
   pub left : Option ℕ
   pub headed : v.head ≡ head.Map left
 
--- Attested credential data, behind the parts of fixed length: the AAGUID of 16 bytes, the credential id's length in
+-- Attested credential data, after the parts of fixed length: the AAGUID of 16 bytes, the credential id's length in
 -- two bytes, big-endian, the credential id, and a map.
 pub record IsAttestedAt (bytes : List ℕ) (a : AttestedView) : Type 0 where
   pub room : 55 ≤ length bytes

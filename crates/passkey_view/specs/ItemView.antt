@@ -7,7 +7,7 @@ use Rattle.passkey_cbor.specs.EncodedAt.{Lies, IsEncodedAt}
 use Rattle.passkey_cbor.specs.CursorState.{CursorState}
 use Rattle.passkey_view.specs.declared.item_view.ItemView.{ItemView}
 
--- The data item is encoded from the offset to the view's end: the view's head, and behind it, from the view's
+-- The data item is encoded from the offset to the view's end: the view's head, and after it, from the view's
 -- content on, the rest.
 pub record IsViewOf (x : Item) (bytes : List ℕ) (offset : ℕ) (v : ItemView) : Type 0 where
   pub from_is : v.from ≡ offset
@@ -26,7 +26,7 @@ HasNoItemAt bytes offset = (x : Item) (to : ℕ) → IsEncodedAt x bytes offset 
 abbrev pub moved : ℕ → ItemView → ItemView
 moved n v = record { head = v.head; from = v.from + n; content = v.content + n; end = v.end + n }
 
--- The cursor is behind the item's head.
+-- The cursor is after the item's head.
 pub record IsOpened (old new : CursorState) (v : ItemView) : Type 0 where
   pub place : new.place ≡ v.content
   pub bytes : new.bytes ≡ old.bytes

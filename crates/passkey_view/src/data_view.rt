@@ -30,7 +30,7 @@ pub struct DataView {
     pub attested: Option<AttestedView>,
     /// The map of extension outputs, if the flag ED is set.
     pub extensions: Option<ItemView>,
-    /// The offset behind the last part.
+    /// The offset after the last part.
     pub end: usize,
 }
 
@@ -74,7 +74,7 @@ pub fn data_parts(bytes: &[u8]) -> Option<DataView>
     }
 }
 
-/// Returns the offset behind the attested credential data.
+/// Returns the offset after the attested credential data.
 fn behind(attested: &Option<AttestedView>) -> usize
     ensures { result ≡ behind attested.now }
 {
@@ -84,7 +84,7 @@ fn behind(attested: &Option<AttestedView>) -> usize
     }
 }
 
-/// Returns the offset behind the last part, where the part before the extensions ends at `end`.
+/// Returns the offset after the last part, where the part before the extensions ends at `end`.
 fn end_of(end: usize, extensions: &Option<ItemView>) -> usize
     ensures { result ≡ end_of end extensions.now }
 {
@@ -107,7 +107,7 @@ fn map_at(bytes: &[u8], offset: usize) -> Option<ItemView>
     }
 }
 
-/// Returns the parts of the attested credential data behind the parts of fixed length.
+/// Returns the parts of the attested credential data after the parts of fixed length.
 fn attested_at(bytes: &[u8]) -> Option<AttestedView>
     ensures { FindsExactly (IsAttestedAt bytes.now) result }
 {

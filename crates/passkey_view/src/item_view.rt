@@ -4,17 +4,17 @@ ghost use Rattle.passkey_view.specs.ItemView.{HasNoItemAt, HasItemAt, IsOpened, 
 
 use passkey_cbor::{Cursor, Head};
 
-/// A data item in bytes: its head, and where it, its content and the bytes behind it begin.
+/// A data item in bytes: its head, and where it, its content and the bytes after it begin.
 #[derive(Clone, Copy, Debug, PartialEq, Eq)]
 pub struct ItemView {
     /// Its head: the major type and the argument.
     pub head: Head,
     /// The offset of its first byte.
     pub from: usize,
-    /// The offset behind its head: that of a string's bytes or first chunk, of an array's first
+    /// The offset after its head: that of a string's bytes or first chunk, of an array's first
     /// element, of a map's first key, or of a tag's content.
     pub content: usize,
-    /// The offset behind its last byte, which is the break for an item of indefinite length.
+    /// The offset after its last byte, which is the break for an item of indefinite length.
     pub end: usize,
 }
 
@@ -32,7 +32,7 @@ pub fn item_at(bytes: &[u8], offset: usize) -> Option<ItemView>
     }
 }
 
-/// Returns the data item at the cursor, which moves behind the item's head, or `None` if none is
+/// Returns the data item at the cursor, which moves past the item's head, or `None` if none is
 /// there.
 pub(crate) fn view_ahead(cursor: &mut Cursor<'_>) -> Option<ItemView>
     ensures opened { IfSome result (IsOpened cursor.old cursor.new) }

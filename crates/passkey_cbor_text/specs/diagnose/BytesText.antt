@@ -15,7 +15,7 @@ use Rattle.passkey_cbor_text.specs.diagnose.Diagnosis.{deeper, separator, closin
 use Rattle.passkey_cbor_text.specs.diagnose.FloatText.{float_text}
 use Rattle.passkey_cbor_text.specs.diagnose.Quoted.{quoted}
 
--- What begins the bytes is appended to the text so far: the text with it, and the bytes behind it; `None` if it isn't
+-- What begins the bytes is appended to the text so far: the text with it, and the bytes after it; `None` if it isn't
 -- well-formed.
 abbrev pub Tell : Type 0
 Tell = List ℕ → List ℕ → Read (List ℕ)
@@ -53,7 +53,7 @@ abbrev pub fewer : Option ℕ → Option ℕ
 fewer (Some n) = Some (n - 1)
 fewer None = None
 
--- the bytes behind the last part
+-- the bytes after the last part
 abbrev pub behind_last : Option ℕ → List ℕ → List ℕ
 behind_last (Some n) bytes = bytes
 behind_last None bytes = drop 1 bytes
@@ -170,7 +170,7 @@ bytes_diagnosis margin bytes = text_in (item_text max_depth margin bytes [])
 
 -- ---- what a call appends
 
--- The text that is wanted is there, and the bytes behind are returned; or `None`. Nothing is said if memory ran out.
+-- The text that is wanted is there, and the bytes after it are returned; or `None`. Nothing is said if memory ran out.
 abbrev pub Tells : {E : Type 0} → Read (List ℕ) → List ℕ → Result (Option (Bor (List ℕ))) E → Type 0
 Tells wanted new (Ok (Some rest)) = wanted ≡ Some (new, rest.now)
 Tells wanted new (Ok None) = wanted ≡ None

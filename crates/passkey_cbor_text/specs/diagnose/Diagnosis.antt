@@ -7,7 +7,7 @@ use Rattle.passkey_cbor.specs.Item.{Items, no_items, item, Pairs, no_pairs, pair
 use Rattle.passkey_cbor_text.specs.diagnose.FloatText.{float_text}
 use Rattle.passkey_cbor_text.specs.diagnose.Quoted.{quoted}
 
--- A margin begins each line behind the first: a line feed and spaces, or nothing where the text is one line. Inside an
+-- A margin begins each line after the first: a line feed and spaces, or nothing where the text is one line. Inside an
 -- array or a map it has two more spaces.
 abbrev pub deeper : List ℕ → List ℕ
 deeper [] = []
@@ -34,8 +34,8 @@ abbrev pub have_no_pairs : Pairs → Bool
 have_no_pairs no_pairs = true
 have_no_pairs (pair k v ps) = false
 
--- The text of an item, and of the elements and members inside, of which the first stands behind the second argument
--- and the others behind a comma.
+-- The text of an item, and of the elements and members inside, of which the first stands after the second argument
+-- and the others after a comma.
 abbrev mutual
   pub diagnosis : Item → List ℕ → List ℕ
   diagnosis (number z) margin = signed_decimal z

@@ -17,7 +17,7 @@ binary_by bits sign one range scale = record {
   scale = scale;
 }
 
--- the digits behind the point, this many, of rest / whole, which is below 1
+-- the digits after the point, this many, of rest / whole, which is below 1
 abbrev pub digits_behind : ℕ → ℕ → ℕ → List ℕ
 digits_behind zero rest whole = []
 digits_behind (suc n) rest whole = (48 + rest * 10 / whole) ∷ digits_behind n (rest * 10 % whole) whole
@@ -26,7 +26,7 @@ digits_behind (suc n) rest whole = (48 + rest * 10 / whole) ∷ digits_behind n 
 abbrev pub hexadecimal_text : ℕ → List ℕ → ℕ → List ℕ
 hexadecimal_text n sign exponent = codes "0x" ++ digits 16 false n ++ sign ++ decimal exponent
 
--- n / 2 ^ k, which is in its lowest terms: in decimal, with a digit behind the point for each halving
+-- n / 2 ^ k, which is in its lowest terms: in decimal, with a digit after the point for each halving
 abbrev pub quotient_text : ℕ → ℕ → List ℕ
 quotient_text n k =
     if k == 0 then decimal n ++ codes ".0"

@@ -22,7 +22,7 @@ use std::str;
 /// The initial byte of a break (RFC 8949, section 3.2.1).
 const BREAK: u8 = 0xff;
 
-/// Returns the head that begins the bytes, and the bytes behind it.
+/// Returns the head that begins the bytes, and the bytes after it.
 fn front(bytes: &[u8]) -> Option<(Head, &[u8])>
     ensures { option_map (λ f. (f.0, f.1.now)) result ≡ head_at bytes.now }
 {
@@ -80,7 +80,7 @@ fn goes_on(left: Option<u64>, bytes: &[u8]) -> bool
     }
 }
 
-/// Returns how many parts are left behind one of them.
+/// Returns how many parts are left after one of them.
 fn fewer(left: Option<u64>) -> Option<u64>
     ensures { result ≡ fewer left }
 {
@@ -90,7 +90,7 @@ fn fewer(left: Option<u64>) -> Option<u64>
     }
 }
 
-/// Returns the bytes behind the last part, and behind the break if there is one.
+/// Returns the bytes after the last part, and after the break if there is one.
 #[tactic(auto, using(crate::proofs::BytesTexts::all_behind))]
 fn behind_last(left: Option<u64>, bytes: &[u8]) -> &[u8]
     requires { goes_on left bytes.now ≡ false }
@@ -301,7 +301,7 @@ fn open(out: &mut String, is_map: bool, indicator: &str, margin: &str) -> Result
     Ok(())
 }
 
-/// Appends a closing bracket, which is a line of its own behind elements or members.
+/// Appends a closing bracket, which is a line of its own after elements or members.
 fn end(out: &mut String, is_map: bool, is_empty: bool, margin: &str) -> Result<(), AllocError>
     ensures { OnOk result (string_bytes out.new
         ≡ string_bytes out.old ++ (closing is_empty margin.now ++ closing_of is_map ∷ [])) }
@@ -510,7 +510,7 @@ fn bytes_with_margin(
 /// Returns the data item at the beginning of the bytes in diagnostic notation, in one line, as
 /// `diagnose` does, and how it is encoded where that isn't the shortest form (RFC 8949, section 8.1):
 /// `_` in brackets for an indefinite length, a string of indefinite length as its chunks in
-/// parentheses, and `_0`, `_1`, `_2` or `_3` behind an argument or a bracket for 1, 2, 4 or 8 bytes
+/// parentheses, and `_0`, `_1`, `_2` or `_3` after an argument or a bracket for 1, 2, 4 or 8 bytes
 /// where fewer would do. `undefined` is told from `null`. Bytes after the item are ignored. Returns
 /// `None` if no well-formed item of at most 256 levels begins the bytes, and `OutOfMemory` if an
 /// allocation fails.

@@ -39,7 +39,7 @@ pub(crate) fn push_separator(
     }
 }
 
-/// Ends an array or a map, which is a line of its own behind elements or members.
+/// Ends an array or a map, which is a line of its own after elements or members.
 pub(crate) fn close(
     out: &mut String,
     is_empty: bool,
@@ -171,7 +171,7 @@ fn text_with_margin(alloc: Global, value: &Value, margin: &str) -> Result<String
 /// are in hexadecimal. Text strings are JSON strings in which control characters, and what changes
 /// the direction of text, are escaped. Floats have their encoding's width (`_1`, `_2`, `_3`), and
 /// their value with all decimal digits, or in hexadecimal with an exponent of two where it isn't
-/// below 2^64 or has more than 60 digits behind the point. Returns `OutOfMemory` if an allocation
+/// below 2^64 or has more than 60 digits after the point. Returns `OutOfMemory` if an allocation
 /// fails.
 pub fn diagnose(alloc: Global, value: &Value) -> Result<String, OutOfMemory>
     ensures { IfOk result (λ text. string_bytes text ≡ diagnosis (item_of value.now) []) }

@@ -41,7 +41,7 @@ fn binary_by(bits: u64, sign: u64, one: u64, range: u64, scale: u64) -> Binary
     }
 }
 
-/// Appends this many digits behind the point of rest / whole.
+/// Appends this many digits after the point of rest / whole.
 #[tactic(auto, using(crate::proofs::Texts::digit_below))]
 fn push_digits_behind(out: &mut String, count: u64, rest: u64, whole: u64) -> Result<(), AllocError>
     requires below { rest < whole }

@@ -1,4 +1,4 @@
--- The first byte of a request or a response, and the body behind it (CTAP 2.1, section 8).
+-- The first byte of a request or a response, and the body after it (CTAP 2.1, section 8).
 use Rattle.std.specs.Prelude.{ℕ, List, [], ◌∷◌, Option, Some, None}
 use Rattle.passkey_core.specs.Statuses.{IsStatus}
 use Rattle.passkey_core.specs.declared.status.StatusCode.{StatusCode}

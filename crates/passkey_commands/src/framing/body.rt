@@ -1,4 +1,4 @@
-//! The bytes of a request and of a response: the first byte, and the body behind it.
+//! The bytes of a request and of a response: the first byte, and the body after it.
 ghost use Rattle.std.specs.Prelude.{◌≡◌, IfSome, option_map};
 ghost use Rattle.passkey_commands.specs.framing.Body.{first_byte, behind_first, HasStatus, map_of_body};
 ghost use Rattle.passkey_commands.specs.framing.Command.{command_of};

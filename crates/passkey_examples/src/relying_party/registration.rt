@@ -104,7 +104,7 @@ fn checked_data(
 }
 
 /// Returns the authenticator data of an attestation object, which is a CTAP2 response with names
-/// instead of numbers. Bytes behind the data are rejected.
+/// instead of numbers. Bytes after the data are rejected.
 fn attested_data(alloc: Global, object: &[u8]) -> Result<AuthenticatorData, Rejected> {
     drop(Response::from_slice(alloc, object)?);
     let Some(token) = Response::auth_data_bytes(object) else {

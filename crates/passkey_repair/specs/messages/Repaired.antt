@@ -15,7 +15,7 @@ pub record Repaired : Type 0 where
 abbrev pub unchanged : Item → Repaired
 unchanged i = record { item = i; edits = [] }
 
--- the edit before those behind it, if it fitted
+-- the edit before those after it, if it fitted
 abbrev pub with_edit : Edit → Option Item → Repaired → Repaired
 with_edit e None r = r
 with_edit e (Some i) r = record { item = r.item; edits = e ∷ r.edits }

@@ -32,7 +32,7 @@ module _ {E : Type 0} where
 abbrev pub is_plain : ℕ → Bool
 is_plain x = not (nat_lt x 32 || (x == 34) || (x == 92))
 
--- a name behind another member, with the comma and the colon
+-- a name after another member, with the comma and the colon
 abbrev pub name_text : List ℕ → List ℕ
 name_text name = 44 ∷ (compact_text (string name) ++ 58 ∷ [])
 

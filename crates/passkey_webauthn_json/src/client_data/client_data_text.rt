@@ -76,7 +76,7 @@ fn put_string(alloc: Global, text: &mut String, value: &str) -> Result<(), OutOf
     Ok(())
 }
 
-/// Appends a member's name, behind another member.
+/// Appends a member's name, after another member.
 fn put_name(alloc: Global, text: &mut String, name: &str) -> Result<(), OutOfMemory>
     ensures { OnOk result (string_bytes text.new ≡ string_bytes text.old ++ name_text name.now) }
 {
