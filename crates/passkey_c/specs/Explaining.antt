@@ -1,5 +1,8 @@
 -- What a call that explains why an input is refused returns, and leaves in the caller's memory.
 use Rattle.std.specs.Prelude.{◌≡◌, ◌-◌, ◌+◌, ◌++◌, ◌⊎◌, ℕ, List, length, take, drop, Bool, true, false, if◌then◌else◌, Option, Some, None, Result, Ok, Err, ⊤}
+use Rattle.passkey_attestation.specs.declared.fault.StatementFault.{StatementFault}
+use Rattle.passkey_attestation.specs.declared.fault.StatementFault.TheVariants.{Member}
+use Rattle.passkey_attestation.specs.declared.format.AttestationFormat.{AttestationFormat}
 use Rattle.passkey_cbor.specs.Item.{Item}
 use Rattle.passkey_cbor.specs.LeadingItem.{IsLeadingItem}
 use Rattle.passkey_explain.specs.Along.{LiesAlong}
@@ -9,12 +12,16 @@ use Rattle.passkey_explain.specs.declared.explanation.Explanation.TheVariants.{N
 use Rattle.passkey_explain_data.specs.DataBlame.{ExplainsData}
 use Rattle.passkey_explain_data.specs.DataLength.{IsDataLength}
 use Rattle.passkey_explain_data.specs.KeyBlame.{key_blame, key_path}
+use Rattle.passkey_explain_data.specs.StatementBlame.{ExplainsStatement}
+use Rattle.passkey_explain_data.specs.declared.statement.StatementExplanation.{StatementExplanation}
+use Rattle.passkey_explain_data.specs.declared.statement.StatementExplanation.TheVariants as statement
 use Rattle.passkey_explain_data.specs.declared.key.KeyRefusal.{KeyRefusal}
 use Rattle.passkey_explain_data.specs.declared.part.DataPart.{DataPart}
 use Rattle.passkey_explain_data.specs.declared.part.DataPart.TheVariants.{Trailing}
 use Rattle.passkey_explain_data.specs.declared.part.DataReason.{DataReason}
 use Rattle.passkey_explain_data.specs.declared.part.DataReason.TheVariants as reason
 use Rattle.passkey_explain_data.specs.declared.part.DataRefusal.{DataRefusal}
+use Rattle.passkey_cose.specs.declared.error.CoseError.TheVariants as error
 use Rattle.passkey_kinds.specs.Message.{Begins}
 use Rattle.passkey_kinds.specs.Record.{Fields}
 use Rattle.passkey_kinds.specs.declared.fault.Fault.{Fault}
@@ -27,7 +34,10 @@ use Rattle.passkey_catalogue.specs.declared.form.Form.TheVariants as form
 use Rattle.passkey_catalogue.specs.declared.kind.Kind.{Kind}
 use Rattle.passkey_run.specs.Definition.{Definition, authenticator, item, message, other}
 use Rattle.passkey_run.specs.Rewriting.{IsFrontLength}
-use Rattle.passkey_c.specs.Statuses.{data_status, message_status}
+use Rattle.passkey_tpm.specs.CertInfo.{cert_info_refusal}
+use Rattle.passkey_tpm.specs.PubArea.{pub_area_refusal}
+use Rattle.passkey_tpm.specs.declared.refusal.TpmRefusal.{TpmRefusal}
+use Rattle.passkey_c.specs.Statuses.{data_status, message_status, statement_status}
 use Rattle.passkey_c.specs.declared.verdict.Refusal.{Refusal}
 use Rattle.passkey_c.specs.declared.verdict.Verdict.{Verdict}
 use Rattle.passkey_c.specs.declared.verdict.Verdict.TheVariants as verdict
@@ -164,11 +174,51 @@ pub record TellsData (input : List ℕ) (status : ℕ) (refusal : Refusal) : Typ
   pub fault : status ≡ data_status refused.fault
   pub bytes : refusal ≡ refusal_in (length input) refused
 
+-- ---- attestation statements
+
+abbrev pub statement_fault_of : StatementExplanation → StatementFault
+statement_fault_of (statement.NotWellFormed m) = Member DecodeFailed
+statement_fault_of (statement.Refused r) = r.fault
+
+-- which of so many bytes are refused
+abbrev pub statement_refusal_of : ℕ → StatementExplanation → Refusal
+statement_refusal_of n (statement.NotWellFormed m) = refused_from n m
+statement_refusal_of n (statement.Refused r) = record { offset = r.extent.offset; len = r.extent.len }
+
+abbrev pub AcceptsStatement : AttestationFormat → List ℕ → ℕ → Type 0
+AcceptsStatement f input n = ExplainsStatement f input None × IsFrontLength input n
+
+-- The statement of this format at the beginning is refused as this explanation says.
+pub record TellsStatement (f : AttestationFormat) (input : List ℕ) (status : ℕ) (refusal : Refusal) : Type 0 where
+  pub explanation : StatementExplanation
+  pub explains : ExplainsStatement f input (Some explanation)
+  pub fault : status ≡ statement_status (statement_fault_of explanation)
+  pub bytes : refusal ≡ statement_refusal_of (length input) explanation
+
+-- ---- structures of a TPM
+
+abbrev pub structure_refusal : TpmRefusal → Refusal
+structure_refusal r = record { offset = r.offset; len = r.len }
+
+-- nothing of so many bytes is refused
+abbrev pub AcceptsStructure : Option TpmRefusal → ℕ → ℕ → Type 0
+AcceptsStructure found len n = (found ≡ None) × (n ≡ len)
+
+-- this field is refused
+pub record TellsStructure (found : Option TpmRefusal) (status : ℕ) (refusal : Refusal) : Type 0 where
+  pub refused : TpmRefusal
+  pub is : found ≡ Some refused
+  pub fault : status ≡ data_status error.DecodeFailed
+  pub bytes : refusal ≡ structure_refusal refused
+
 -- ---- by what the input is
 
 -- so many bytes are accepted
 abbrev pub AcceptsForm : Form → List ℕ → ℕ → Type 0
 AcceptsForm form.Key = AcceptsKey
+AcceptsForm (form.Statement f) = AcceptsStatement f
+AcceptsForm form.CertInfo = λ input. AcceptsStructure (cert_info_refusal input) (length input)
+AcceptsForm form.PubArea = λ input. AcceptsStructure (pub_area_refusal input) (length input)
 AcceptsForm _ = λ input n. ⊥
 
 abbrev pub Accepts : Definition Form → List ℕ → ℕ → Type 0
@@ -180,6 +230,9 @@ Accepts (other f) = AcceptsForm f
 -- this is the fault's status, and these bytes are refused
 abbrev pub TellsForm : Form → List ℕ → ℕ → Refusal → Type 0
 TellsForm form.Key = TellsNoKey
+TellsForm (form.Statement f) = TellsStatement f
+TellsForm form.CertInfo = λ input. TellsStructure (cert_info_refusal input)
+TellsForm form.PubArea = λ input. TellsStructure (pub_area_refusal input)
 TellsForm _ = λ input status refusal. ⊥
 
 abbrev pub Tells : Definition Form → List ℕ → ℕ → Refusal → Type 0
@@ -188,10 +241,11 @@ Tells authenticator = TellsData
 Tells (message t tree) = TellsMessage t
 Tells (other f) = TellsForm f
 
--- attestation statements, structures of a TPM and JSON texts aren't explained
+-- JSON texts aren't explained
 abbrev pub IsUnexplainedForm : Form → Type 0
-IsUnexplainedForm form.Key = ⊥
-IsUnexplainedForm _ = ⊤
+IsUnexplainedForm (form.Json k) = ⊤
+IsUnexplainedForm (form.FurtherJson k) = ⊤
+IsUnexplainedForm _ = ⊥
 
 abbrev pub IsUnexplained : Definition Form → Type 0
 IsUnexplained (other f) = IsUnexplainedForm f

@@ -2,23 +2,29 @@
 ghost use Rattle.std.specs.Prelude.{◌≡◌, ℕ, IfOk, Some};
 ghost use Rattle.passkey_cbor.specs.Item.{Item};
 ghost use Rattle.passkey_cbor.specs.LeadingItem.{HasNoLeadingItem, IsLeadingItem};
-ghost use Rattle.passkey_c.specs.Explaining.{Accepts, AcceptsData, AcceptsForm, AcceptsKey, AcceptsMessage, ExplainsAs, IsUnexplained, IsUnexplainedForm, IsVerdict, Tells, TellsData, TellsForm, TellsItem, TellsKey, TellsMessage, TellsNoKey, bytes_in, fault_of, refusal_in, refusal_of, refused_in_front};
+ghost use Rattle.passkey_c.specs.Explaining.{Accepts, AcceptsData, AcceptsForm, AcceptsKey, AcceptsMessage, AcceptsStatement, AcceptsStructure, ExplainsAs, IsUnexplained, IsUnexplainedForm, IsVerdict, Tells, TellsData, TellsForm, TellsItem, TellsKey, TellsMessage, TellsNoKey, TellsStatement, TellsStructure, bytes_in, fault_of, refusal_in, refusal_of, refused_in_front, statement_fault_of, statement_refusal_of, structure_refusal};
 ghost use Rattle.passkey_catalogue.specs.Catalogue.{definition, kind_numbered};
 ghost use Rattle.passkey_explain_data.specs.KeyBlame.{key_blame};
 ghost use Rattle.passkey_run.specs.Rewriting.{IsFrontLength};
+ghost use Rattle.passkey_tpm.specs.CertInfo.{cert_info_refusal};
+ghost use Rattle.passkey_tpm.specs.PubArea.{pub_area_refusal};
 
-use crate::status::{data_status, message_status};
+use crate::status::{data_status, message_status, statement_status};
 use crate::verdict::{Reason, Refusal, Verdict, refused_from, tell};
+use passkey_attestation::{AttestationFormat, StatementFault};
 use passkey_catalogue::{Form, Kind, visit};
 use passkey_cbor::{CborError, Value, item_len};
+use passkey_cose::CoseError;
 use passkey_explain::{Explanation, explain};
 use passkey_explain_data::{
-    DataPart, DataReason, DataRefusal, KeyRefusal, data_len, explain_data, explain_key, locate_key,
+    DataPart, DataReason, DataRefusal, KeyRefusal, StatementExplanation, data_len, explain_data,
+    explain_key, explain_statement, locate_key,
 };
 use passkey_kinds::{Fault, Message};
 use passkey_malformed::malformed;
 use passkey_memory::OutOfMemory;
 use passkey_run::Visitor;
+use passkey_tpm::{TpmRefusal, explain_cert_info, explain_pub_area};
 use std::alloc::Global;
 
 /// Explains why no data item begins the input, and where.
@@ -172,13 +178,87 @@ fn judge_data(alloc: Global, input: &[u8]) -> Result<Verdict, OutOfMemory>
     }))
 }
 
+/// Returns the fault that is explained.
+fn statement_fault_of(explanation: &StatementExplanation) -> StatementFault
+    ensures { result ≡ statement_fault_of explanation.now }
+{
+    match explanation {
+        StatementExplanation::NotWellFormed(_) => StatementFault::Member(Fault::DecodeFailed),
+        StatementExplanation::Refused(refusal) => refusal.fault,
+    }
+}
+
+/// Returns which of so many bytes are refused.
+fn statement_refusal_of(explanation: &StatementExplanation, len: usize) -> Refusal
+    ensures { result ≡ statement_refusal_of len explanation.now }
+{
+    match explanation {
+        StatementExplanation::NotWellFormed(malformed) => refused_from(*malformed, len),
+        StatementExplanation::Refused(refusal) => Refusal {
+            offset: refusal.extent.offset,
+            len: refusal.extent.len,
+        },
+    }
+}
+
+fn judge_statement(
+    alloc: Global,
+    format: AttestationFormat,
+    input: &[u8],
+) -> Result<Verdict, OutOfMemory>
+    ensures { IfOk result
+        (IsVerdict (AcceptsStatement format input.now) (TellsStatement format input.now) ⊥) }
+{
+    let Some(explanation) = explain_statement(alloc, format, input)? else {
+        return Ok(Verdict::Accepted(front_len(input)));
+    };
+    let text = format!(in alloc; "{explanation}")?;
+    Ok(Verdict::Refused(Reason {
+        status: statement_status(statement_fault_of(&explanation)),
+        refusal: statement_refusal_of(&explanation, input.len()),
+        text,
+    }))
+}
+
+/// Returns the verdict of an input of this length as a structure of a TPM.
+fn judge_structure(
+    alloc: Global,
+    len: usize,
+    found: Option<TpmRefusal>,
+) -> Result<Verdict, OutOfMemory>
+    ensures { IfOk result (IsVerdict (AcceptsStructure found len) (TellsStructure found) ⊥) }
+{
+    let Some(refused) = found else {
+        return Ok(Verdict::Accepted(len));
+    };
+    let text = format!(in alloc; "{refused}")?;
+    Ok(Verdict::Refused(Reason {
+        status: data_status(CoseError::DecodeFailed),
+        refusal: structure_refusal(refused),
+        text,
+    }))
+}
+
+/// Returns which bytes are refused.
+fn structure_refusal(refused: TpmRefusal) -> Refusal
+    ensures { result ≡ structure_refusal refused }
+{
+    Refusal {
+        offset: refused.offset,
+        len: refused.len,
+    }
+}
+
 fn judge_form(alloc: Global, form: Form, input: &[u8]) -> Result<Verdict, OutOfMemory>
     ensures { IfOk result
         (IsVerdict (AcceptsForm form input.now) (TellsForm form input.now) (IsUnexplainedForm form)) }
 {
     match form {
         Form::Key => judge_key(alloc, input),
-        _ => Ok(Verdict::Unexplained),
+        Form::Statement(format) => judge_statement(alloc, format, input),
+        Form::CertInfo => judge_structure(alloc, input.len(), explain_cert_info(input)),
+        Form::PubArea => judge_structure(alloc, input.len(), explain_pub_area(input)),
+        Form::Json(_) | Form::FurtherJson(_) => Ok(Verdict::Unexplained),
     }
 }
 
@@ -224,17 +304,18 @@ fn judge(alloc: Global, kind: Kind, input: &[u8]) -> Result<Verdict, OutOfMemory
 /// Explains why the input is refused as this kind. Returns PUFFGRIT_OK if it is accepted, with how
 /// many of its bytes were decoded in `read`, as puffgrit_rewrite; the status of its fault, as
 /// puffgrit_rewrite; PUFFGRIT_OUT_OF_MEMORY if an allocation fails; or PUFFGRIT_UNKNOWN_KIND. The
-/// kinds are those of bytes but for attestation statements and structures of a TPM.
+/// kinds are those of bytes.
 ///
 /// For a fault `refusal` says which bytes are refused: of a message the innermost data item, or map
 /// key, that its table refuses; of authenticator data the part, or what in the credential public key;
-/// of a COSE key the label or the value that is no key's; or the bytes from where they aren't
-/// well-formed; and a text is written to the beginning of `out`, or as much of it as there is room
+/// of a COSE key the label or the value that is no key's; of an attestation statement the data item
+/// or map key that its format refuses; of a structure of a TPM the field; or the bytes from where
+/// they aren't well-formed; and a text is written to the beginning of `out`, or as much of it as there is room
 /// for, and its whole length to `len`. It says in ASCII where these bytes are and what is wanted
 /// there, as "user.id: a byte string is wanted (offset 58, length 10)". Otherwise nothing is
 /// written.
 ///
-/// (CTAP 2.1, section 6; RFC 8949, section 3; WebAuthn Level 3, section 6.1.)
+/// (CTAP 2.1, section 6; RFC 8949, section 3; WebAuthn Level 3, sections 6.1 and 8.)
 #[unsafe(no_mangle)]
 pub extern "C" fn puffgrit_explain(
     alloc: Global,

@@ -1,7 +1,8 @@
 //! The statuses of calls that decode.
 ghost use Rattle.std.specs.Prelude.{◌≡◌, ◌+◌, ◌*◌, ◌<◌};
-ghost use Rattle.passkey_c.specs.Statuses.{data_status, json_status, message_status, status_of};
+ghost use Rattle.passkey_c.specs.Statuses.{data_status, json_status, message_status, statement_status, status_of};
 
+use passkey_attestation::StatementFault;
 use passkey_cose::CoseError;
 use passkey_json::JsonFault;
 use passkey_kinds::Fault;
@@ -40,6 +41,19 @@ pub(crate) fn data_status(error: CoseError) -> u32
         CoseError::OutOfRangeIntegerValue => 22,
         CoseError::DuplicateMapKey => 23,
         CoseError::UnexpectedItem => 24,
+    }
+}
+
+/// Returns the status of the fault of an attestation statement.
+pub(crate) fn statement_status(fault: StatementFault) -> u32
+    ensures { result ≡ statement_status fault }
+{
+    match fault {
+        StatementFault::OutOfMemory => 2,
+        StatementFault::Member(fault) => message_status(fault),
+        StatementFault::NotEmpty | StatementFault::NotCompound => {
+            data_status(CoseError::UnexpectedItem)
+        }
     }
 }
 

@@ -1,20 +1,21 @@
 //! Bytes, decoded as a kind.
 
 use crate::kind::InspectKind;
-use crate::refusal::{cbor_refused, data_refused, key_refused, message_refused, refused};
+use crate::refusal::{
+    cbor_refused, data_refused, key_refused, message_refused, refused, statement_refused,
+};
 use crate::structure::{examine_cert_info, examine_pub_area};
-use passkey_attestation::{AttestationFormat, AttestationStatement, StatementFault};
+use passkey_attestation::AttestationFormat;
 use passkey_catalogue::{Form, visit};
 use passkey_cbor::Value;
 use passkey_core::AuthenticatorData;
 use passkey_describe_data::{describe_data, describe_item, describe_key};
 use passkey_explain::{Description, Extent, describe, dropped, explain};
-use passkey_explain_data::{explain_data, explain_key};
+use passkey_explain_data::{explain_data, explain_key, explain_statement};
 use passkey_kinds::Message;
 use passkey_memory::OutOfMemory;
 use passkey_report::{left_out_text, opened};
 use passkey_run::Visitor;
-use passkey_webauthn::EnumNames;
 use std::alloc::Global;
 
 /// What is in bytes that a kind accepts.
@@ -134,37 +135,18 @@ fn examine_message<M: Message>(alloc: Global, bytes: &[u8]) -> Result<Examined, 
     }
 }
 
-/// Examines an attestation statement of this format, the data item of this length.
-fn examine_statement_item(
-    alloc: Global,
-    format: AttestationFormat,
-    value: &Value,
-    len: usize,
-) -> Result<Examined, OutOfMemory> {
-    match AttestationStatement::from_value(alloc, format.name(), value) {
-        Ok(statement) => {
-            drop(statement);
-            Ok(accepted(alloc, describe_item(alloc, value)?, len))
-        }
-        Err(StatementFault::OutOfMemory) => Err(OutOfMemory),
-        Err(fault) => Ok(Examined::Refused(format!(in alloc; "{fault}")?, None)),
-    }
-}
-
 /// Examines an attestation statement of this format (WebAuthn Level 3, section 8).
 fn examine_statement(
     alloc: Global,
     format: AttestationFormat,
     bytes: &[u8],
 ) -> Result<Examined, OutOfMemory> {
-    match Value::from_slice(alloc, bytes) {
-        Ok((value, len)) => {
-            let examined = examine_statement_item(alloc, format, &value, len);
-            drop(value);
-            examined
-        }
-        Err(error) => cbor_refused(alloc, bytes, error),
+    if let Some(explanation) = explain_statement(alloc, format, bytes)? {
+        let refused = statement_refused(alloc, format, bytes, &explanation);
+        drop(explanation);
+        return refused;
     }
+    examine_item(alloc, bytes)
 }
 
 fn examine_form(alloc: Global, form: Form, bytes: &[u8]) -> Result<Examined, OutOfMemory> {

@@ -10,6 +10,7 @@ use crate::kind::{CBOR, FOUND_KINDS, InspectKind, is_data_item, name_of};
 use crate::newer_members::newer_members_text;
 use crate::options::{Options, Output};
 use crate::records::print_record;
+use crate::undecoded::undecoded_text;
 use passkey_cbor::{CborError, Value};
 use passkey_cbor_text::diagnose::{diagnose_bytes_indented, diagnose_indented};
 use passkey_cbor_text::dump::dump;
@@ -169,6 +170,18 @@ pub(crate) fn push_report(
     Ok(text.push_str(contents.left_out.as_str())?)
 }
 
+/// Appends a report of bytes, and what is refused in what they keep undecoded.
+fn push_bytes_report(
+    text: &mut String,
+    alloc: Global,
+    body: &Body<'_>,
+    kind: InspectKind,
+    contents: &Contents,
+) -> Result<(), OutOfMemory> {
+    push_report(text, alloc, name_of(kind), contents)?;
+    Ok(text.push_str(undecoded_text(alloc, kind, body.bytes)?.as_str())?)
+}
+
 /// Appends a line with the names of the kinds that were found.
 pub(crate) fn push_names(text: &mut String, names: &[&'static str]) -> Result<(), OutOfMemory> {
     text.push_str("kinds:")?;
@@ -188,7 +201,7 @@ fn report_text(
 ) -> Result<String, OutOfMemory> {
     let len = contents.len;
     let mut text = heading(alloc, body)?;
-    push_report(&mut text, alloc, name_of(kind), contents)?;
+    push_bytes_report(&mut text, alloc, body, kind, contents)?;
     if let Ok(encoding) = encode(alloc, kind, body.bytes) {
         if encoding.as_slice() != body.bytes.get(..len).unwrap_or(&[]) {
             text.push_str("encoded again it differs: --cbor shows it\n")?;
@@ -280,7 +293,7 @@ fn report_found(
 ) -> Result<String, OutOfMemory> {
     let mut text = heading(alloc, body)?;
     push_names(&mut text, matches.names.as_slice())?;
-    push_report(&mut text, alloc, name_of(kind), contents)?;
+    push_bytes_report(&mut text, alloc, body, kind, contents)?;
     Ok(text)
 }
 

@@ -17,6 +17,7 @@ mod records;
 mod refusal;
 mod status_name;
 mod structure;
+mod undecoded;
 
 use fault::InspectFault;
 use kinds::all_kinds_text;

@@ -1,13 +1,22 @@
 //! Why a kind refuses bytes, in two lines, and where.
 
 use crate::examine::Examined;
+use passkey_attestation::{
+    AndroidKeyStatement, AppleStatement, AttestationFormat, CompoundElement, FidoU2fStatement,
+    PackedStatement, SafetyNetStatement, TpmStatement,
+};
+use passkey_bytes::List;
 use passkey_cbor::{CborError, Cursor, Head, Value};
 use passkey_cose::CoseError;
 use passkey_explain::{Blame, Explanation, Extent, Reason, RefusedItem, Step};
-use passkey_explain_data::{DataReason, DataRefusal, KeyRefusal, explain_data, locate_key};
+use passkey_explain_data::{
+    DataReason, DataRefusal, KeyRefusal, StatementBlame, StatementExplanation, StatementRefusal,
+    explain_data, locate_key,
+};
 use passkey_kinds::{Fault, Form, FromCbor, Message, Wanted};
 use passkey_malformed::{Malformed, malformed};
 use passkey_memory::OutOfMemory;
+use passkey_tpm::TpmRefusal;
 use std::alloc::Global;
 
 /// Returns the refusal by a call that gives no explanation.
@@ -26,7 +35,7 @@ fn extent_from(malformed: Malformed, end: usize) -> Extent {
     }
 }
 
-fn moved_extent(extent: Extent, by: usize) -> Extent {
+pub fn moved_extent(extent: Extent, by: usize) -> Extent {
     Extent {
         offset: extent.offset.saturating_add(by),
         len: extent.len,
@@ -109,7 +118,7 @@ pub fn cbor_refused(
 }
 
 /// Returns the content of the byte string at this place, and its offset, if its length is definite.
-fn content_at(bytes: &[u8], extent: Extent) -> Option<(usize, &[u8])> {
+pub fn content_at(bytes: &[u8], extent: Extent) -> Option<(usize, &[u8])> {
     let end = extent.offset.saturating_add(extent.len);
     let item = bytes.get(extent.offset..end)?;
     let mut cursor = Cursor::new(item);
@@ -152,8 +161,8 @@ fn member_name(path: &[Step]) -> Option<&'static str> {
     }
 }
 
-/// Returns the name of the member that is missing, if one is, of the message or of a record in it.
-fn missing_name<M: Message>(
+/// Returns the name of the member that is missing, if one is, of a type or of a record in it.
+fn missing_name<M: FromCbor>(
     alloc: Global,
     blame: &Blame,
 ) -> Result<Option<&'static str>, OutOfMemory> {
@@ -194,6 +203,69 @@ fn item_refused<M: Message>(
         text.push_str(name)?;
     }
     Ok(Examined::Refused(text, Some(item.extent)))
+}
+
+/// Returns the name of the member that is missing, if one is, of a statement of this format.
+fn missing_in_statement(
+    alloc: Global,
+    format: AttestationFormat,
+    blame: &Blame,
+) -> Result<Option<&'static str>, OutOfMemory> {
+    match format {
+        AttestationFormat::Packed => missing_name::<PackedStatement>(alloc, blame),
+        AttestationFormat::Tpm => missing_name::<TpmStatement>(alloc, blame),
+        AttestationFormat::AndroidKey => missing_name::<AndroidKeyStatement>(alloc, blame),
+        AttestationFormat::AndroidSafetyNet => missing_name::<SafetyNetStatement>(alloc, blame),
+        AttestationFormat::FidoU2f => missing_name::<FidoU2fStatement>(alloc, blame),
+        AttestationFormat::None => Ok(None),
+        AttestationFormat::Apple => missing_name::<AppleStatement>(alloc, blame),
+        AttestationFormat::Compound => missing_name::<List<CompoundElement>>(alloc, blame),
+    }
+}
+
+/// Returns a line about what is refused of a statement of this format.
+pub fn statement_line(
+    alloc: Global,
+    format: AttestationFormat,
+    refusal: &StatementRefusal,
+) -> Result<String, OutOfMemory> {
+    let mut text = format!(in alloc; "{refusal}")?;
+    if let StatementBlame::Item(blame) = &refusal.blame {
+        if let Some(name) = missing_in_statement(alloc, format, blame)? {
+            text.push_str(": ")?;
+            text.push_str(name)?;
+        }
+    }
+    Ok(text)
+}
+
+/// Returns the refusal of an attestation statement of this format.
+pub fn statement_refused(
+    alloc: Global,
+    format: AttestationFormat,
+    bytes: &[u8],
+    explanation: &StatementExplanation,
+) -> Result<Examined, OutOfMemory> {
+    match explanation {
+        StatementExplanation::NotWellFormed(malformed) => not_well_formed(alloc, bytes, *malformed),
+        StatementExplanation::Refused(refusal) => {
+            let fault = refusal.fault;
+            let line = statement_line(alloc, format, refusal)?;
+            let text = format!(in alloc; "{fault}\n{line}")?;
+            Ok(Examined::Refused(text, Some(refusal.extent)))
+        }
+    }
+}
+
+/// Returns the refusal of a structure of a TPM.
+pub fn structure_refused(alloc: Global, refusal: TpmRefusal) -> Result<Examined, OutOfMemory> {
+    let fault = CoseError::DecodeFailed;
+    let extent = Extent {
+        offset: refusal.offset,
+        len: refusal.len,
+    };
+    let text = format!(in alloc; "{fault}\n{refusal}")?;
+    Ok(Examined::Refused(text, Some(extent)))
 }
 
 /// Returns the refusal of a message: the item that is refused, or what in its authenticator data

@@ -1,7 +1,7 @@
 //! The structures of a TPM, by the names of their members (TPM 2.0 Library, Part 2).
 
 use crate::examine::{Examined, accepted};
-use crate::refusal::refused;
+use crate::refusal::{refused, structure_refused};
 use passkey_cbor::{Integer, Value};
 use passkey_cose::CoseError;
 use passkey_explain::{Description, FieldName};
@@ -9,7 +9,7 @@ use passkey_kinds::Wanted;
 use passkey_memory::OutOfMemory;
 use passkey_tpm::{
     CertInfo, ClockInfo, Curve, EccKey, EccScheme, HashAlgorithm, KdfScheme, PubArea, PublicKey,
-    RsaKey, RsaScheme,
+    RsaKey, RsaScheme, explain_cert_info, explain_pub_area,
 };
 use std::alloc::Global;
 
@@ -217,6 +217,9 @@ fn describe_pub_area(alloc: Global, area: &PubArea<'_>) -> Result<Description, O
 
 /// Examines `certInfo` of a tpm attestation statement, which is all of the bytes.
 pub fn examine_cert_info(alloc: Global, bytes: &[u8]) -> Result<Examined, OutOfMemory> {
+    if let Some(refusal) = explain_cert_info(bytes) {
+        return structure_refused(alloc, refusal);
+    }
     match CertInfo::from_slice(bytes) {
         Some(info) => Ok(accepted(alloc, describe_cert_info(alloc, &info)?, bytes.len())),
         None => refused(alloc, CoseError::DecodeFailed),
@@ -225,6 +228,9 @@ pub fn examine_cert_info(alloc: Global, bytes: &[u8]) -> Result<Examined, OutOfM
 
 /// Examines `pubArea` of a tpm attestation statement, which is all of the bytes.
 pub fn examine_pub_area(alloc: Global, bytes: &[u8]) -> Result<Examined, OutOfMemory> {
+    if let Some(refusal) = explain_pub_area(bytes) {
+        return structure_refused(alloc, refusal);
+    }
     match PubArea::from_slice(bytes) {
         Some(area) => Ok(accepted(alloc, describe_pub_area(alloc, &area)?, bytes.len())),
         None => refused(alloc, CoseError::DecodeFailed),

@@ -5,7 +5,11 @@ pub use passkey_attestation::{
     AttestationStatement, CompoundElement, FidoU2fStatement, PackedStatement, SafetyNetStatement,
     StatementFault, TpmStatement, laws,
 };
+pub use passkey_explain_data::{
+    StatementBlame, StatementExplanation, StatementRefusal, explain_statement,
+};
 pub use passkey_tpm::{
     CertInfo, ClockInfo, Curve, EccKey, EccScheme, EncodeError, HashAlgorithm, KdfScheme, PubArea,
-    PublicKey, RsaKey, RsaScheme,
+    PublicKey, RsaKey, RsaScheme, TpmField, TpmReason, TpmRefusal, explain_cert_info,
+    explain_pub_area,
 };
