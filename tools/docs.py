@@ -8,7 +8,7 @@ ROOT = Path(__file__).resolve().parent.parent
 
 
 class Block(NamedTuple):
-    """A fenced block: its document, its line, the word behind its fence, and its text."""
+    """A fenced block: its document, its line, the word after its fence, and its text."""
 
     document: str
     line: int
