@@ -48,7 +48,8 @@ module _ (f : AttestationFormat) (i : Item) (bytes : List ℕ) (len : ℕ) (fron
   -- where the steps lead to what the statement blames
   statement_located : IsLocated (path_to (blame_of_statement b)) i bytes found
   statement_located =
-      let inside : is_some (item_along (path_to (blame_of_statement b)) i) ≡ true = subst (IsThere i) (sym is) (blame_there f i) in
+      let inside : is_some (item_along (path_to (blame_of_statement b)) i) ≡ true =
+      subst (IsThere i) (sym is) (blame_there f i) in
       let part = there (item_along (path_to (blame_of_statement b)) i) inside in
       locates i part.0 len front part.1
 

@@ -122,9 +122,11 @@ cert_info_front c rest valid =
     c.qualified_signer (size_of c.extra_data) c.extra_data (to_be_bytes w64 clock.clock) (to_be_bytes w32
     clock.reset_count) (to_be_bytes w32 clock.restart_count) (clock.safe ∷ []) (to_be_bytes w64
     c.firmware_version) (size_of c.name) c.name (size_of c.qualified_name) c.qualified_name rest in
-    ap cert_info_at grouped ∙ after _ (header_back _) ∙ after _ (sized_back field.QualifiedSigner c.qualified_signer _ valid.signer)
+    ap cert_info_at grouped ∙ after _ (header_back _)
+    ∙ after _ (sized_back field.QualifiedSigner c.qualified_signer _ valid.signer)
     ∙ after _ (sized_back field.ExtraData c.extra_data _ valid.extra) ∙ after _ (clock_info_back clock _ valid.clock)
-    ∙ after _ (u64_back field.FirmwareVersion c.firmware_version _ valid.firmware) ∙ after _ (sized_back field.Name c.name _ valid.name)
+    ∙ after _ (u64_back field.FirmwareVersion c.firmware_version _ valid.firmware)
+    ∙ after _ (sized_back field.Name c.name _ valid.name)
     ∙ after _ (sized_back field.QualifiedName c.qualified_name rest valid.qualified)
 
 pub cert_info_back : (c : CertInfoParts) → IsCertInfo c → cert_info_in (cert_info_written c) ≡ Some c
@@ -164,12 +166,15 @@ rsa_scheme_back : (s : RsaScheme) (rest : List ℕ) → IsRsaScheme s
 unfolding rsa_scheme_at
 rsa_scheme_back rsa_scheme.Null rest fits = after _ (u16_back field.Scheme 0x0010 rest (lit< tt))
 rsa_scheme_back (rsa_scheme.RsaSsa h) rest fits =
-    after _ (u16_back field.Scheme 0x0014 (hash_written h ++ rest) (lit< tt)) ∙ hashed_back field.SchemeHash rsa_scheme.RsaSsa h rest fits
+    after _ (u16_back field.Scheme 0x0014 (hash_written h ++ rest) (lit< tt))
+    ∙ hashed_back field.SchemeHash rsa_scheme.RsaSsa h rest fits
 rsa_scheme_back rsa_scheme.RsaEs rest fits = after _ (u16_back field.Scheme 0x0015 rest (lit< tt))
 rsa_scheme_back (rsa_scheme.RsaPss h) rest fits =
-    after _ (u16_back field.Scheme 0x0016 (hash_written h ++ rest) (lit< tt)) ∙ hashed_back field.SchemeHash rsa_scheme.RsaPss h rest fits
+    after _ (u16_back field.Scheme 0x0016 (hash_written h ++ rest) (lit< tt))
+    ∙ hashed_back field.SchemeHash rsa_scheme.RsaPss h rest fits
 rsa_scheme_back (rsa_scheme.Oaep h) rest fits =
-    after _ (u16_back field.Scheme 0x0017 (hash_written h ++ rest) (lit< tt)) ∙ hashed_back field.SchemeHash rsa_scheme.Oaep h rest fits
+    after _ (u16_back field.Scheme 0x0017 (hash_written h ++ rest) (lit< tt))
+    ∙ hashed_back field.SchemeHash rsa_scheme.Oaep h rest fits
 
 ecdaa_back : (h : HashAlgorithm) (count : ℕ) (rest : List ℕ) → IsHash h → count < 2 ^ 16
     → ecdaa_at (hash_written h ++ (to_be_bytes w16 count ++ rest)) ≡ Ok (ecc_scheme.Ecdaa h count, rest)
@@ -182,18 +187,23 @@ ecc_scheme_back : (s : EccScheme) (rest : List ℕ) → IsEccScheme s
 unfolding ecc_scheme_at
 ecc_scheme_back ecc_scheme.Null rest fits = after _ (u16_back field.Scheme 0x0010 rest (lit< tt))
 ecc_scheme_back (ecc_scheme.Ecdsa h) rest fits =
-    after _ (u16_back field.Scheme 0x0018 (hash_written h ++ rest) (lit< tt)) ∙ hashed_back field.SchemeHash ecc_scheme.Ecdsa h rest fits
+    after _ (u16_back field.Scheme 0x0018 (hash_written h ++ rest) (lit< tt))
+    ∙ hashed_back field.SchemeHash ecc_scheme.Ecdsa h rest fits
 ecc_scheme_back (ecc_scheme.Ecdh h) rest fits =
-    after _ (u16_back field.Scheme 0x0019 (hash_written h ++ rest) (lit< tt)) ∙ hashed_back field.SchemeHash ecc_scheme.Ecdh h rest fits
+    after _ (u16_back field.Scheme 0x0019 (hash_written h ++ rest) (lit< tt))
+    ∙ hashed_back field.SchemeHash ecc_scheme.Ecdh h rest fits
 ecc_scheme_back (ecc_scheme.Ecdaa h count) rest fits =
     after _ (u16_back field.Scheme 0x001A (hash_written h ++ (to_be_bytes w16 count ++ rest)) (lit< tt))
     ∙ ecdaa_back h count rest fits.0 fits.1
 ecc_scheme_back (ecc_scheme.Sm2 h) rest fits =
-    after _ (u16_back field.Scheme 0x001B (hash_written h ++ rest) (lit< tt)) ∙ hashed_back field.SchemeHash ecc_scheme.Sm2 h rest fits
+    after _ (u16_back field.Scheme 0x001B (hash_written h ++ rest) (lit< tt))
+    ∙ hashed_back field.SchemeHash ecc_scheme.Sm2 h rest fits
 ecc_scheme_back (ecc_scheme.EcSchnorr h) rest fits =
-    after _ (u16_back field.Scheme 0x001C (hash_written h ++ rest) (lit< tt)) ∙ hashed_back field.SchemeHash ecc_scheme.EcSchnorr h rest fits
+    after _ (u16_back field.Scheme 0x001C (hash_written h ++ rest) (lit< tt))
+    ∙ hashed_back field.SchemeHash ecc_scheme.EcSchnorr h rest fits
 ecc_scheme_back (ecc_scheme.EcMqv h) rest fits =
-    after _ (u16_back field.Scheme 0x001D (hash_written h ++ rest) (lit< tt)) ∙ hashed_back field.SchemeHash ecc_scheme.EcMqv h rest fits
+    after _ (u16_back field.Scheme 0x001D (hash_written h ++ rest) (lit< tt))
+    ∙ hashed_back field.SchemeHash ecc_scheme.EcMqv h rest fits
 
 kdf_back : (s : KdfScheme) (rest : List ℕ) → IsKdf s → kdf_at (kdf_written s ++ rest) ≡ Ok (s, rest)
 unfolding kdf_at
@@ -201,27 +211,34 @@ kdf_back kdf_scheme.Null rest fits = after _ (u16_back field.Kdf 0x0010 rest (li
 kdf_back (kdf_scheme.Mgf1 h) rest fits =
     after _ (u16_back field.Kdf 0x0007 (hash_written h ++ rest) (lit< tt)) ∙ hashed_back field.KdfHash kdf_scheme.Mgf1 h rest fits
 kdf_back (kdf_scheme.Kdf1Sp80056a h) rest fits =
-    after _ (u16_back field.Kdf 0x0020 (hash_written h ++ rest) (lit< tt)) ∙ hashed_back field.KdfHash kdf_scheme.Kdf1Sp80056a h rest fits
+    after _ (u16_back field.Kdf 0x0020 (hash_written h ++ rest) (lit< tt))
+    ∙ hashed_back field.KdfHash kdf_scheme.Kdf1Sp80056a h rest fits
 kdf_back (kdf_scheme.Kdf2 h) rest fits =
     after _ (u16_back field.Kdf 0x0021 (hash_written h ++ rest) (lit< tt)) ∙ hashed_back field.KdfHash kdf_scheme.Kdf2 h rest fits
 kdf_back (kdf_scheme.Kdf1Sp800108 h) rest fits =
-    after _ (u16_back field.Kdf 0x0022 (hash_written h ++ rest) (lit< tt)) ∙ hashed_back field.KdfHash kdf_scheme.Kdf1Sp800108 h rest fits
+    after _ (u16_back field.Kdf 0x0022 (hash_written h ++ rest) (lit< tt))
+    ∙ hashed_back field.KdfHash kdf_scheme.Kdf1Sp800108 h rest fits
 
 rsa_back : (k : RsaParts) (rest : List ℕ) → IsRsa k → rsa_at (null_written ++ (rsa_scheme_written k.scheme
     ++ (to_be_bytes w16 k.key_bits ++ (to_be_bytes w32 k.exponent ++ (to_be_bytes w16 (length k.modulus)
     ++ (k.modulus ++ rest)))))) ≡ Ok (k, rest)
 unfolding rsa_at
 rsa_back k rest valid =
-    after _ (constant_back field.Symmetric 0x0010 _ (lit< tt) refl) ∙ after _ (rsa_scheme_back k.scheme _ valid.scheme) ∙ after _ (u16_back field.KeyBits k.key_bits _ valid.bits)
-    ∙ after _ (u32_back field.Exponent k.exponent _ valid.exponent) ∙ after _ (sized_back field.Modulus k.modulus rest valid.modulus)
+    after _ (constant_back field.Symmetric 0x0010 _ (lit< tt) refl)
+    ∙ after _ (rsa_scheme_back k.scheme _ valid.scheme)
+    ∙ after _ (u16_back field.KeyBits k.key_bits _ valid.bits)
+    ∙ after _ (u32_back field.Exponent k.exponent _ valid.exponent)
+    ∙ after _ (sized_back field.Modulus k.modulus rest valid.modulus)
 
 ecc_back : (k : EccParts) (rest : List ℕ) → IsEcc k → ecc_at (null_written ++ (ecc_scheme_written k.scheme
     ++ (to_be_bytes w16 k.curve.0 ++ (kdf_written k.kdf ++ (to_be_bytes w16 (length k.x) ++ (k.x
     ++ (to_be_bytes w16 (length k.y) ++ (k.y ++ rest)))))))) ≡ Ok (k, rest)
 unfolding ecc_at
 ecc_back k rest valid =
-    after _ (constant_back field.Symmetric 0x0010 _ (lit< tt) refl) ∙ after _ (ecc_scheme_back k.scheme _ valid.scheme) ∙ after _ (curve_back k.curve _ valid.curve)
-    ∙ after _ (kdf_back k.kdf _ valid.kdf) ∙ after _ (sized_back field.X k.x _ valid.x) ∙ after _ (sized_back field.Y k.y rest valid.y)
+    after _ (constant_back field.Symmetric 0x0010 _ (lit< tt) refl)
+    ∙ after _ (ecc_scheme_back k.scheme _ valid.scheme) ∙ after _ (curve_back k.curve _ valid.curve)
+    ∙ after _ (kdf_back k.kdf _ valid.kdf) ∙ after _ (sized_back field.X k.x _ valid.x)
+    ∙ after _ (sized_back field.Y k.y rest valid.y)
 
 key_back : (k : KeyParts) (rest : List ℕ) → IsKey k → key_at (kind_of k) (key_written k ++ rest) ≡ Ok (k, rest)
 key_back (rsa k) rest valid =
@@ -239,7 +256,8 @@ pub_area_front a rest valid =
     a.object_attributes) (size_of a.auth_policy) a.auth_policy (key_written a.key) rest in
     ap pub_area_at grouped ∙ after _ (type_back a.key _)
     ∙ after _ (hash_back field.NameAlg a.name_alg _ valid.name_alg)
-    ∙ after _ (u32_back field.ObjectAttributes a.object_attributes _ valid.attributes) ∙ after _ (sized_back field.AuthPolicy a.auth_policy _ valid.policy)
+    ∙ after _ (u32_back field.ObjectAttributes a.object_attributes _ valid.attributes)
+    ∙ after _ (sized_back field.AuthPolicy a.auth_policy _ valid.policy)
     ∙ after _ (key_back a.key rest valid.key)
 
 pub pub_area_back : (a : PubAreaParts) → IsPubArea a → pub_area_in (pub_area_written a) ≡ Some a

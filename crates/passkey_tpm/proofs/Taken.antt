@@ -338,11 +338,11 @@ type_taken bytes k rest fits e =
         (respelled (ap (to_be_bytes w16) (same ∙ sym is ∙ ap type_id made)) t)
 
 -- the scheme's identifier, and its hash algorithm
-hashed_taken : {S : Type 0} (f : TpmField) (bytes : List ℕ) (id n : ℕ) (mid : List ℕ) (make : HashAlgorithm → S) (written : S → List ℕ)
-    → ((h : HashAlgorithm) → written (make h) ≡ to_be_bytes w16 n ++ hash_written h)
+hashed_taken : {S : Type 0} {bytes mid : List ℕ} {id n : ℕ} (f : TpmField) (make : HashAlgorithm → S)
+    (written : S → List ℕ) → ((h : HashAlgorithm) → written (make h) ≡ to_be_bytes w16 n ++ hash_written h)
     → Taken bytes (to_be_bytes w16 id) mid → id ≡ n → (s : S) (rest : List ℕ) → hashed f make mid ≡ Ok (s, rest)
     → Taken bytes (written s) rest
-hashed_taken f bytes id n mid make written spelled t same s rest e =
+hashed_taken {bytes = bytes} {mid = mid} f make written spelled t same s rest e =
     let w = went (hash_at f mid) _ (s, rest) e in
     let u = hash_taken f mid w.x.0 w.x.1 t.fits w.was in
     let made : make w.x.0 ≡ s = (pair_is w.gives).0 in
@@ -351,10 +351,10 @@ hashed_taken f bytes id n mid make written spelled t same s rest e =
     (respelled (sym (spelled w.x.0) ∙ ap written made) (then_taken (respelled (ap (to_be_bytes w16) same) t) u))
 
 -- the scheme's identifier alone
-alone_taken : {S : Type 0} (bytes : List ℕ) (id n : ℕ) (mid : List ℕ) (this : S) (written : S → List ℕ)
+alone_taken : {S : Type 0} {bytes mid : List ℕ} {id n : ℕ} (this : S) (written : S → List ℕ)
     → written this ≡ to_be_bytes w16 n → Taken bytes (to_be_bytes w16 id) mid → id ≡ n → (s : S) (rest : List ℕ)
     → ◌≡◌ {A = Result (S × List ℕ) Stop} (Ok (this, mid)) (Ok (s, rest)) → Taken bytes (written s) rest
-alone_taken {S = S} bytes id n mid this written spelled t same s rest e =
+alone_taken {S = S} {bytes = bytes} {mid = mid} this written spelled t same s rest e =
     let made : this ≡ s = (pair_is e).0 in
     let behind : mid ≡ rest = (pair_is e).1 in
     subst (λ (r : List ℕ). Taken bytes (written s) r) behind
@@ -369,15 +369,15 @@ rsa_scheme_taken bytes s rest fits e =
     let id = w.x.0 in
     let mid = w.x.1 in
     elim (chosen id 0x0010 _ _ (s, rest) w.gives) [
-      | inl p ↦ alone_taken bytes id 0x0010 mid rsa_scheme.Null rsa_scheme_written refl t p.0 s rest p.1
+      | inl p ↦ alone_taken rsa_scheme.Null rsa_scheme_written refl t p.0 s rest p.1
       | inr f ↦ elim (chosen id 0x0014 _ _ (s, rest) f) [
-        | inl p ↦ hashed_taken field.SchemeHash bytes id 0x0014 mid rsa_scheme.RsaSsa rsa_scheme_written (λ h. refl) t p.0 s rest p.1
+        | inl p ↦ hashed_taken field.SchemeHash rsa_scheme.RsaSsa rsa_scheme_written (λ h. refl) t p.0 s rest p.1
         | inr f ↦ elim (chosen id 0x0015 _ _ (s, rest) f) [
-          | inl p ↦ alone_taken bytes id 0x0015 mid rsa_scheme.RsaEs rsa_scheme_written refl t p.0 s rest p.1
+          | inl p ↦ alone_taken rsa_scheme.RsaEs rsa_scheme_written refl t p.0 s rest p.1
           | inr f ↦ elim (chosen id 0x0016 _ _ (s, rest) f) [
-            | inl p ↦ hashed_taken field.SchemeHash bytes id 0x0016 mid rsa_scheme.RsaPss rsa_scheme_written (λ h. refl) t p.0 s rest p.1
+            | inl p ↦ hashed_taken field.SchemeHash rsa_scheme.RsaPss rsa_scheme_written (λ h. refl) t p.0 s rest p.1
             | inr f ↦ elim (chosen id 0x0017 _ _ (s, rest) f) [
-              | inl p ↦ hashed_taken field.SchemeHash bytes id 0x0017 mid rsa_scheme.Oaep rsa_scheme_written (λ h. refl) t p.0 s rest p.1
+              | inl p ↦ hashed_taken field.SchemeHash rsa_scheme.Oaep rsa_scheme_written (λ h. refl) t p.0 s rest p.1
               | inr f ↦ none_chosen _ (s, rest) f
             ]
           ]
@@ -408,19 +408,19 @@ ecc_scheme_taken bytes s rest fits e =
     let id = w.x.0 in
     let mid = w.x.1 in
     elim (chosen id 0x0010 _ _ (s, rest) w.gives) [
-      | inl p ↦ alone_taken bytes id 0x0010 mid ecc_scheme.Null ecc_scheme_written refl t p.0 s rest p.1
+      | inl p ↦ alone_taken ecc_scheme.Null ecc_scheme_written refl t p.0 s rest p.1
       | inr f ↦ elim (chosen id 0x0018 _ _ (s, rest) f) [
-        | inl p ↦ hashed_taken field.SchemeHash bytes id 0x0018 mid ecc_scheme.Ecdsa ecc_scheme_written (λ h. refl) t p.0 s rest p.1
+        | inl p ↦ hashed_taken field.SchemeHash ecc_scheme.Ecdsa ecc_scheme_written (λ h. refl) t p.0 s rest p.1
         | inr f ↦ elim (chosen id 0x0019 _ _ (s, rest) f) [
-          | inl p ↦ hashed_taken field.SchemeHash bytes id 0x0019 mid ecc_scheme.Ecdh ecc_scheme_written (λ h. refl) t p.0 s rest p.1
+          | inl p ↦ hashed_taken field.SchemeHash ecc_scheme.Ecdh ecc_scheme_written (λ h. refl) t p.0 s rest p.1
           | inr f ↦ elim (chosen id 0x001A _ _ (s, rest) f) [
             | inl p ↦ ecdaa_taken bytes id mid t p.0 s rest p.1
             | inr f ↦ elim (chosen id 0x001B _ _ (s, rest) f) [
-              | inl p ↦ hashed_taken field.SchemeHash bytes id 0x001B mid ecc_scheme.Sm2 ecc_scheme_written (λ h. refl) t p.0 s rest p.1
+              | inl p ↦ hashed_taken field.SchemeHash ecc_scheme.Sm2 ecc_scheme_written (λ h. refl) t p.0 s rest p.1
               | inr f ↦ elim (chosen id 0x001C _ _ (s, rest) f) [
-                | inl p ↦ hashed_taken field.SchemeHash bytes id 0x001C mid ecc_scheme.EcSchnorr ecc_scheme_written (λ h. refl) t p.0 s rest p.1
+                | inl p ↦ hashed_taken field.SchemeHash ecc_scheme.EcSchnorr ecc_scheme_written (λ h. refl) t p.0 s rest p.1
                 | inr f ↦ elim (chosen id 0x001D _ _ (s, rest) f) [
-                  | inl p ↦ hashed_taken field.SchemeHash bytes id 0x001D mid ecc_scheme.EcMqv ecc_scheme_written (λ h. refl) t p.0 s rest p.1
+                  | inl p ↦ hashed_taken field.SchemeHash ecc_scheme.EcMqv ecc_scheme_written (λ h. refl) t p.0 s rest p.1
                   | inr f ↦ none_chosen _ (s, rest) f
                 ]
               ]
@@ -439,15 +439,15 @@ kdf_taken bytes s rest fits e =
     let id = w.x.0 in
     let mid = w.x.1 in
     elim (chosen id 0x0010 _ _ (s, rest) w.gives) [
-      | inl p ↦ alone_taken bytes id 0x0010 mid kdf_scheme.Null kdf_written refl t p.0 s rest p.1
+      | inl p ↦ alone_taken kdf_scheme.Null kdf_written refl t p.0 s rest p.1
       | inr f ↦ elim (chosen id 0x0007 _ _ (s, rest) f) [
-        | inl p ↦ hashed_taken field.KdfHash bytes id 0x0007 mid kdf_scheme.Mgf1 kdf_written (λ h. refl) t p.0 s rest p.1
+        | inl p ↦ hashed_taken field.KdfHash kdf_scheme.Mgf1 kdf_written (λ h. refl) t p.0 s rest p.1
         | inr f ↦ elim (chosen id 0x0020 _ _ (s, rest) f) [
-          | inl p ↦ hashed_taken field.KdfHash bytes id 0x0020 mid kdf_scheme.Kdf1Sp80056a kdf_written (λ h. refl) t p.0 s rest p.1
+          | inl p ↦ hashed_taken field.KdfHash kdf_scheme.Kdf1Sp80056a kdf_written (λ h. refl) t p.0 s rest p.1
           | inr f ↦ elim (chosen id 0x0021 _ _ (s, rest) f) [
-            | inl p ↦ hashed_taken field.KdfHash bytes id 0x0021 mid kdf_scheme.Kdf2 kdf_written (λ h. refl) t p.0 s rest p.1
+            | inl p ↦ hashed_taken field.KdfHash kdf_scheme.Kdf2 kdf_written (λ h. refl) t p.0 s rest p.1
             | inr f ↦ elim (chosen id 0x0022 _ _ (s, rest) f) [
-              | inl p ↦ hashed_taken field.KdfHash bytes id 0x0022 mid kdf_scheme.Kdf1Sp800108 kdf_written (λ h. refl) t p.0 s rest p.1
+              | inl p ↦ hashed_taken field.KdfHash kdf_scheme.Kdf1Sp800108 kdf_written (λ h. refl) t p.0 s rest p.1
               | inr f ↦ none_chosen _ (s, rest) f
             ]
           ]
