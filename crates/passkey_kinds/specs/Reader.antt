@@ -162,7 +162,8 @@ collected next (x ∷ xs) v = option_and_then (λ w. collected next xs w) (next 
 -- A way of putting elements together: the elements of an item, and their encodings; what one more
 -- makes of the value, if it isn't refused; whether decoding an element may take memory; the most heads
 -- that it decodes for each byte of the element; the data items that it makes as values at most; what it
--- counts at least if it isn't refused; and that an item with an element takes memory, and that a list goes from one element to the next.
+-- counts at least if it isn't refused; and that an item with an element takes memory, and that a list
+-- goes from one element to the next.
 pub record Way (X V : Type 0) : Type 1 where
   pub parts : Item → Option (List X)
   pub Encoded : X → Language

@@ -27,8 +27,8 @@ middle_members =
     tolerated_at 9 (codes "transports") (accepted_of text) (λ r. r.transports) (λ x r. record r { transports = x })
     ∷ tolerated_at 10 (codes "algorithms") (accepted_of (plain credential_parameters)) (λ r. r.algorithms)
     (λ x r. record r { algorithms = x })
-    ∷ optional_at_or 11 (codes "maxSerializedLargeBlobArray") (codes "macSerializedLargeBlobArray") long (λ r. r.max_serialized_large_blob_array)
-    (λ x r. record r { max_serialized_large_blob_array = x })
+    ∷ optional_at_or 11 (codes "maxSerializedLargeBlobArray") (codes "macSerializedLargeBlobArray") long
+    (λ r. r.max_serialized_large_blob_array) (λ x r. record r { max_serialized_large_blob_array = x })
     ∷ optional_at_or 12 (codes "forcePINChange") (codes "forcePinChange") truth (λ r. r.force_pin_change)
     (λ x r. record r { force_pin_change = x })
     ∷ optional_at_or 13 (codes "minPINLength") (codes "minPinLength") long (λ r. r.min_pin_length)
