@@ -61,7 +61,7 @@ pub use Rattle.passkey_kinds.specs.Kind.{algorithm_from, algorithm_tree, aaguid_
 pub use Rattle.passkey_kinds.specs.Message.{ReadsMessage, Begins, GrowsMessage, ReadsHere, AlikeDifferInLength, ReadIsCoherent, AllCanonical, kept_if_some, WrittenIsCanonical, WrittenIsReadBack, SameButForLength, AnswersCarryOver, KnowsItems, known, HasNoWrongKey, AnswersAlike, SameAnswers, PassesOverUnknown, KnowsMaps}
 pub use Rattle.passkey_kinds.specs.Placed.{EachFits, fields_of, places_of, PlainTable, members_of, plain_kind, plain_tree, IsReadBack, Any, IsByte, AreBytes}
 pub use Rattle.passkey_kinds.specs.Reader.{signed_in, collected, entered, pushed, pushed_if, pushed_below, full, scalar_in, ReadsScalar, head_scalar, head_array, head_map, elements_in, members_in, numbers_in, OpensAt, kept_parts, pushed, pushed_if, pushed_below, Further, Decodes, LooksAtMost, Spends, SpendsLess, Onward}
-pub use Rattle.passkey_kinds.specs.Record.{naming_of, MayGrowIn, Reads, MayGrowAt, named_as, MayGrowBy, takes_at, Fields, set_with, rows_of, table_of, put_at, unless_missing, one_more, Progress, progress_of, result_and_then, read_from, read_members, read_item, Member, record_kind, Entry, Table, entries, named, Members, first_missing, Naming, row, unknown, wrong, accepts_at, row_or_unknown, goes_by, names, ◌>>=◌, row_named}
+pub use Rattle.passkey_kinds.specs.Record.{naming_of, MayGrowIn, Reads, MayGrowAt, named_as, MayGrowBy, takes_at, Fields, set_with, rows_of, table_of, put_at, unless_missing, one_more, Progress, progress_of, result_and_then, read_from, read_members, read_item, Member, record_kind, Entry, Table, entries, named, Members, first_missing, Naming, row, unknown, wrong, accepts_at, row_or_unknown, names, ◌>>=◌, row_named}
 pub use Rattle.passkey_kinds.specs.RecordReading.{record_cost, cost_by, kept_in, kept_in_map, greatest_cost, cost_at, keeps_at, keeps_by, keeps_nothing, none_keeps, record_keeps, HasReadTo, Sets, Puts, as_nested, DecodesRecord, both_names, entry_of, row_at}
 pub use Rattle.passkey_kinds.specs.Tree.{by_length, short_first, AllAccepted, MemberAccepted, append_member, encode_member, put_all, Place, record_tree, KeysAscend, number_tree, numbers_tree, entry_tree, under, laid, list_tree, byte_map_tree, where_true, option_tree, credential_type_tree, transport_tree}
 pub use Rattle.passkey_kinds.specs.declared.fault.Fault.TheVariants.{Repeated}

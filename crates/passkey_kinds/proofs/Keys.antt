@@ -1,5 +1,5 @@
 -- The rows that names and map keys name.
-use Rattle.passkey_kinds.proofs.Common.{named_as, IsEncodedAt, CursorState, LooksOnce, Spends, Further, Onward, sym, nat_tests, find, bytes_eq, ◌≡◌, ◌∙◌, ◌<◌, ◌==◌, ℕ, arith, zero, suc, Bool, true, ◌+◌, List, [], ◌∷◌, ◌++◌, length, map, take, drop, set, get_or, Bor, add-one, Option, Some, None, cond, nat_lt, slice_get, refl, ap, cases_lt, eqb-true, length-map, map_push, take_more_set, Item, scalar_in, naming_of, IfSome, entry_of, Row, Entry, row, wrong, row_or_unknown, names, position, position_or_len, take-suc, slice_get_past, row_at, row_named, both_names, goes_by, append_assoc, lt-ltb, ◌⊎◌, inl, inr, ◌*◌, ◌≤◌, not, false, ◌||◌}
+use Rattle.passkey_kinds.proofs.Common.{named_as, IsEncodedAt, CursorState, LooksOnce, Spends, Further, Onward, sym, nat_tests, find, bytes_eq, ◌≡◌, ◌∙◌, ◌<◌, ◌==◌, ℕ, arith, zero, suc, Bool, true, ◌+◌, List, [], ◌∷◌, ◌++◌, length, map, take, drop, set, get_or, Bor, add-one, Option, Some, None, cond, nat_lt, slice_get, refl, ap, cases_lt, eqb-true, length-map, map_push, take_more_set, Item, scalar_in, naming_of, IfSome, entry_of, Row, Entry, row, wrong, row_or_unknown, names, position, position_or_len, take-suc, slice_get_past, row_at, row_named, both_names, append_assoc, length-append, option_or, lt-ltb, ◌⊎◌, inl, inr, ◌*◌, ◌≤◌, not, false, ◌||◌}
 use Rattle.std.specs.Prelude.{IfNone, ◌/◌}
 use Rattle.std.proofs.lemmas.List.{length-set}
 use Rattle.passkey_kinds.specs.RecordReading.{ReadsKey, FindsRow, LooksTwice}
@@ -14,38 +14,29 @@ use Rattle.passkey_cbor.specs.Item as item
 one_and : (k : ℕ) → 1 + k ≡ suc k
 one_and k = omega arith
 
-half_more : (k : ℕ) → (1 + (1 + k)) / 2 ≡ suc (k / 2)
-half_more k = omega arith
+at_first : (s : List ℕ) (f : Entry → List ℕ) (es : List Entry)
+    → slice_get es (position_or_len (λ n. bytes_eq n s) (map f es)) ≡ find (λ e. bytes_eq (f e) s) es
+at_first s f [] = refl
+at_first s f (e ∷ es) = grind (arith, one_and, at_first s f es)
 
-at_first : (s : List ℕ) (es : List Entry)
-    → slice_get es (position_or_len (λ n. bytes_eq n s) (both_names es) / 2) ≡ find (goes_by s) es
-at_first s [] = refl
-at_first s (e ∷ es) =
-    by_names (position_or_len (λ n. bytes_eq n s) (both_names es)) (at_first s es) (bytes_eq e.name s) (bytes_eq e.other s) where
-      by_names : (k : ℕ) {found : Option Entry} → slice_get es (k / 2) ≡ found → (a b : Bool)
-          → slice_get (e ∷ es) (cond (not a) (1 + cond (not b) (1 + k) 0) 0 / 2) ≡ cond (a || b) (Some e) found
-      by_names k later true b = refl
-      by_names k later false true = refl
-      by_names k later false false = rw (half_more k) later
+-- the first of these names, and after them of those
+at_either : (s : List ℕ) (f g : Entry → List ℕ) (es ds : List Entry)
+    → slice_get (es ++ ds) (position_or_len (λ n. bytes_eq n s) (map f es ++ map g ds))
+    ≡ option_or (find (λ e. bytes_eq (f e) s) es) (find (λ e. bytes_eq (g e) s) ds)
+at_either s f g [] ds = at_first s g ds
+at_either s f g (e ∷ es) ds = grind (arith, one_and, at_either s f g es ds)
 
-twice_as_long : (es : List Entry) → length (both_names es) ≡ 2 * length es
-twice_as_long [] = refl
-twice_as_long (e ∷ es) = let more = twice_as_long es in omega arith
+row_within : (es : List Entry) (k len : ℕ) → len ≡ length (es ++ es)
+    → row_at es (cond (nat_lt k len) (Some k) None) ≡ row_or_unknown (slice_get (es ++ es) k)
+row_within es k len same = grind (arith, cases_lt, slice_get_past, nat_tests)
 
-row_within : (es : List Entry) (k len : ℕ) → len ≡ 2 * length es
-    → row_at es (cond (nat_lt k len) (Some k) None) ≡ row_or_unknown (slice_get es (k / 2))
-row_within es k len same = by_order (cases_lt k len) where
-  past : len ≤ k → length es ≤ k / 2
-  past h = omega (arith, h, same)
-
-  by_order : (k < len) ⊎ (len ≤ k) → row_at es (cond (nat_lt k len) (Some k) None) ≡ row_or_unknown (slice_get es (k / 2))
-  by_order (inl less) = rw (lt-ltb k len less) refl
-  by_order (inr more) = rw (slice_get_past es (k / 2) (past more)) (grind (arith, nat_tests))
+as_many : (es : List Entry) → length (both_names es) ≡ length (es ++ es)
+as_many es = grind (arith, length-map, length-append)
 
 pub row_of_name : (s : List ℕ) (es : List Entry)
     → row_at es (position (λ n. bytes_eq n s) (both_names es)) ≡ row_named es s
-row_of_name s es = row_within es (position_or_len (λ n. bytes_eq n s) (both_names es)) (length (both_names es)) (twice_as_long es)
-    ∙ ap row_or_unknown (at_first s es)
+row_of_name s es = row_within es (position_or_len (λ n. bytes_eq n s) (both_names es)) (length (both_names es)) (as_many es)
+    ∙ ap row_or_unknown (at_either s (λ e. e.name) (λ e. e.other) es es)
 
 -- ---- a row that is found among the last ones
 
@@ -62,39 +53,23 @@ found_behind n m (suc k) (e ∷ es) h = grind (arith, eqb-true, found_number, fo
 
 -- ---- the rows' names, one after the other
 
-both_more : (es : List Entry) (e : Entry) → both_names (es ++ e ∷ []) ≡ both_names es ++ e.name ∷ e.other ∷ []
-both_more [] e = refl
-both_more (d ∷ es) e = ap (λ (ns : List (List ℕ)). d.name ∷ d.other ∷ ns) (both_more es e)
-
-two_more : (names : List (Bor (List ℕ))) (k : ℕ) (a b : Bor (List ℕ)) → k + 1 < length names
-    → take (k + 1 + 1) (set (set names k a) (k + 1) b) ≡ (take k names ++ a ∷ []) ++ b ∷ []
-two_more names k a b within =
-    let less : k + 1 < length (set names k a) = omega (arith, length-set {A = Bor (List ℕ)}, within) in
-    let first : k < length names = omega (arith, within) in
-    take_more_set (set names k a) (k + 1) b less
-    ∙ ap (λ (ns : List (Bor (List ℕ))). ns ++ b ∷ []) (take_more_set names k a first)
-
-pub two_more_names : (rows : List Row) (names : List (Bor (List ℕ))) (i : ℕ) (a b : Bor (List ℕ)) (d : Row)
-    → i < length rows → 2 * i + 1 < length names → a.now ≡ (entry_of (get_or rows i d)).name
-    → b.now ≡ (entry_of (get_or rows i d)).other
-    → map (λ (n : Bor (List ℕ)). n.now) (take (2 * i) names) ≡ both_names (map entry_of (take i rows))
-    → map (λ (n : Bor (List ℕ)). n.now) (take (2 * (i + 1)) (set (set names (2 * i) a) (2 * i + 1) b))
-    ≡ both_names (map entry_of (take (i + 1) rows))
-two_more_names rows names i a b d less within is also before =
-    let e : 2 * (i + 1) ≡ 2 * i + 1 + 1 = omega arith in
-    let row = entry_of (get_or rows i d) in
+-- one more name after those of the rows so far
+pub one_more_name : (f : Entry → List ℕ) (before : List (List ℕ)) (rows : List Row) (all : List (Bor (List ℕ)))
+    (j i : ℕ) (name : Bor (List ℕ)) (d : Row)
+    → i < length rows → j < length all → name.now ≡ f (entry_of (get_or rows i d))
+    → map (λ (n : Bor (List ℕ)). n.now) (take j all) ≡ before ++ map f (map entry_of (take i rows))
+    → map (λ (n : Bor (List ℕ)). n.now) (take (j + 1) (set all j name))
+    ≡ before ++ map f (map entry_of (take (i + 1) rows))
+one_more_name f before rows all j i name d less within is so_far =
     rw (
-      e,
-      two_more names (2 * i) a b within,
+      take_more_set all j name within,
       map_push,
-      map_push,
-      before,
+      so_far,
       is,
-      also,
       add-one,
       take-suc rows i d less,
       map_push,
-      both_more (map entry_of (take i rows)) row,
+      map_push,
       append_assoc,
     ) refl
 

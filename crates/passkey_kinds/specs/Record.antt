@@ -7,6 +7,7 @@ use Rattle.passkey_kinds.specs.declared.fault.Fault.TheVariants.{BadKey, Repeate
 use Rattle.passkey_kinds.specs.declared.rows.Named.{Named}
 pub use Rattle.passkey_kinds.specs.Shape.{Entry}
 use Rattle.std.specs.List.{find}
+use Rattle.std.specs.Option.{option_or}
 use Rattle.std.specs.Result.{result_ok}
 use Rattle.std.specs.Str.{bytes_eq}
 use Rattle.passkey_kinds.specs.declared.rows.Named.TheVariants as code
@@ -38,12 +39,10 @@ abbrev pub row_or_unknown : Option Entry → Naming
 row_or_unknown (Some e) = row e.number
 row_or_unknown None = unknown
 
--- a member goes by its name and by its other name
-abbrev pub goes_by : List ℕ → Entry → Bool
-goes_by name e = bytes_eq e.name name || bytes_eq e.other name
-
+-- the row with this name; if none has it, the one whose other name it is
 abbrev pub row_named : List Entry → List ℕ → Naming
-row_named rows name = row_or_unknown (find (goes_by name) rows)
+row_named rows name =
+    row_or_unknown (option_or (find (λ e. bytes_eq e.name name) rows) (find (λ e. bytes_eq e.other name) rows))
 
 -- what an integer names: if members have numbers and it is below 256, the row with this number, if
 -- there is one

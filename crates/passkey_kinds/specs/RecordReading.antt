@@ -1,6 +1,6 @@
 -- Decoding a record over a cursor: its cost and its steps.
 use Rattle.passkey_kinds.specs.Base.{Item, members, CursorState}
-use Rattle.std.specs.Prelude.{ℕ, ◌+◌, ◌≤◌, max, ◌==◌, Bool, true, false, ◌&&◌, if◌then◌else◌, List, [], ◌∷◌, ◌≡◌, Option, Some, None, Result, Ok, Err, IfSome, OnOk, slice_get, ◌/◌}
+use Rattle.std.specs.Prelude.{ℕ, ◌+◌, ◌≤◌, max, ◌==◌, Bool, true, false, ◌&&◌, if◌then◌else◌, List, [], ◌∷◌, ◌++◌, map, ◌≡◌, Option, Some, None, Result, Ok, Err, IfSome, OnOk, slice_get}
 use Rattle.passkey_kinds.specs.Kind.{CountsLeast, Keeping, Least, least_of, least_sum, no_least, nothing, counted, kept_of, kept_sum, Typed, MayGrow, accepts}
 use Rattle.passkey_kinds.specs.Reader.{Spends, SpendsLess}
 use Rattle.passkey_kinds.specs.Record.{takes_at, MayGrowIn, MayGrowAt, Reads, entry, naming_of, named_as, Fields, Member, table_of, record_kind, rows_of, put_at, read_members, read_from, progress_of, Progress, one_more, MayGrowBy, read_item, Naming, row, unknown, wrong, named, Members, accepts_at, Entry, row_or_unknown}
@@ -180,12 +180,11 @@ entry_of (row.Optional n name) = entry n name.now false
 entry_of (row.Aliased n name other) =
     record { number = n; name = name.now; other = other.now; is_required = false }
 
--- each row's two names, one row after the other
+-- the rows' names, then their other names
 abbrev pub both_names : List Entry → List (List ℕ)
-both_names [] = []
-both_names (e ∷ es) = e.name ∷ e.other ∷ both_names es
+both_names rows = map (λ e. e.name) rows ++ map (λ e. e.other) rows
 
 -- the row that has the name at an index of these, if there is one
 abbrev pub row_at : List Entry → Option ℕ → Naming
-row_at rows (Some i) = row_or_unknown (slice_get rows (i / 2))
+row_at rows (Some i) = row_or_unknown (slice_get (rows ++ rows) i)
 row_at rows None = unknown

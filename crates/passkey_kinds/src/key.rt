@@ -6,15 +6,17 @@ use crate::head::read_scalar;
 use crate::rows::{Named, Row, of_number, with_name};
 use passkey_cbor::{BytesToken, Cursor, Head, TextToken};
 
-/// Returns both names of each of at most 64 rows, followed by empty names.
+/// Returns the names of at most 64 rows, then their other names, followed by empty names.
 fn names_of(rows: &[Row]) -> [&'static str; 128]
     requires { length rows.now ≤ 64 }
     ensures { map (λ n. n.now) (take (2 * length rows.now) result) ≡ both_names (map entry_of rows.now) }
 {
     let mut names = [""; 128];
     for (i, row) in rows.iter().enumerate() {
-        names[2 * i] = row.name();
-        names[2 * i + 1] = row.other_name();
+        names[i] = row.name();
+    }
+    for (i, row) in rows.iter().enumerate() {
+        names[rows.len() + i] = row.other_name();
     }
     names
 }
@@ -23,11 +25,12 @@ fn names_of(rows: &[Row]) -> [&'static str; 128]
 fn at_index(rows: &[Row], index: Option<usize>) -> Named
     ensures { named_as result ≡ row_at (map entry_of rows.now) index }
 {
-    match index {
-        Some(index) => match rows.get(index / 2) {
-            Some(row) => Named::Row(row.number()),
-            None => Named::Unknown,
-        },
+    let Some(index) = index else {
+        return Named::Unknown;
+    };
+    let own = index.checked_sub(rows.len()).unwrap_or(index);
+    match rows.get(own) {
+        Some(row) => Named::Row(row.number()),
         None => Named::Unknown,
     }
 }

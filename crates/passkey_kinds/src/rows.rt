@@ -1,7 +1,8 @@
 //! The rows of a table, by number and name.
 ghost use Rattle.std.specs.Prelude.{◌≡◌, ◌==◌, map};
 ghost use Rattle.std.specs.List.{find};
-ghost use Rattle.passkey_kinds.specs.Words.{item_of, named_as, naming_of, entry_of, goes_by, names, row_named, row_or_unknown, number_names};
+ghost use Rattle.std.specs.Str.{bytes_eq};
+ghost use Rattle.passkey_kinds.specs.Words.{item_of, named_as, naming_of, entry_of, names, row_named, row_or_unknown, number_names};
 
 use passkey_cbor::Value;
 
@@ -44,16 +45,6 @@ impl Row {
     {
         match self {
             Row::Required(_, name) | Row::Optional(_, name) | Row::Aliased(_, _, name) => name,
-        }
-    }
-
-    /// Returns whether this is one of the member's names.
-    fn goes_by(&self, name: &[u8]) -> bool
-        ensures { result ≡ goes_by name.now (entry_of self.now) }
-    {
-        match self {
-            Row::Required(_, own) | Row::Optional(_, own) => own.as_bytes() == name,
-            Row::Aliased(_, own, other) => own.as_bytes() == name || other.as_bytes() == name,
         }
     }
 
@@ -101,11 +92,24 @@ fn with_number(rows: &[Row], number: u8) -> Named
     }
 }
 
+/// Finds the row with this name; if none has it, the one whose other name it is.
 pub(crate) fn with_name(rows: &[Row], name: &[u8]) -> Named
     ensures { named_as result ≡ row_named (map entry_of rows.now) name.now }
 {
     for row in rows {
-        if row.goes_by(name) {
+        if row.name().as_bytes() == name {
+            return Named::Row(row.number());
+        }
+    }
+    with_other_name(rows, name)
+}
+
+// By itself, so that no row's other name is looked at before all own names were.
+fn with_other_name(rows: &[Row], name: &[u8]) -> Named
+    ensures { named_as result ≡ row_or_unknown (find (λ e. bytes_eq e.other name.now) (map entry_of rows.now)) }
+{
+    for row in rows {
+        if row.other_name().as_bytes() == name {
             return Named::Row(row.number());
         }
     }

@@ -1,0 +1,7 @@
+use Rattle.passkey_kinds.proofs.Common.{find, ◌≡◌, map, drop, entry_of, Entry, bytes_eq}
+use Rattle.passkey_kinds.proofs.rows.with_other_name.Given as goal
+
+abbrev pub invariant-loop-row : goal.invariant-loop-row
+invariant-loop-row l =
+    find (λ (e : Entry). bytes_eq e.other l.name) (map entry_of (drop l.row-index l.rows))
+    ≡ find (λ (e : Entry). bytes_eq e.other l.name) (map entry_of l.rows)
