@@ -1,32 +1,14 @@
 -- Messages of authenticatorBioEnrollment: decoding their encodings again, their nesting levels, and their canonical form.
-use Rattle.passkey_kinds.proofs.Numbered.{code_place, code_keeps, numbered_law, IsNumbered, IsNumberedAs}
+use Rattle.passkey_kinds.proofs.Numbered.{code_place, numbered_law, IsNumbered, IsNumberedAs}
 use Rattle.passkey_kinds.proofs.Steps.{shortest_head, truth_back, plainly, list_plain, puts_value, puts_default, no_more, ◌▸◌, refl, byte_back, word_back, text_back, bytes_back, anything, optional_place, list_same, ℕ, suc, ◌≡◌}
-use Rattle.passkey_commands.specs.bio_enrollment.SubCommand.{sub_command_of, sub_command_byte, named_sub_commands}
-use Rattle.passkey_commands.specs.declared.bio_enrollment.sub_command.SubCommand.TheVariants as sub_command
-use Rattle.passkey_commands.specs.bio_enrollment.Modality.{modality_of, modality_byte, named_modalitys}
-use Rattle.passkey_commands.specs.declared.bio_enrollment.modality.Modality.TheVariants as modality
-use Rattle.passkey_commands.specs.bio_enrollment.FingerprintKind.{fingerprint_kind_of, fingerprint_kind_byte, named_fingerprint_kinds}
-use Rattle.passkey_commands.specs.declared.bio_enrollment.fingerprint_kind.FingerprintKind.TheVariants as fingerprint_kind
-use Rattle.passkey_commands.specs.bio_enrollment.SampleStatus.{sample_status_of, sample_status_byte, named_sample_statuss}
-use Rattle.passkey_commands.specs.declared.bio_enrollment.sample_status.SampleStatus.TheVariants as sample_status
+use Rattle.passkey_commands.specs.bio_enrollment.SubCommand.{sub_command_of, sub_command_byte}
+use Rattle.passkey_commands.specs.bio_enrollment.Modality.{modality_of, modality_byte}
+use Rattle.passkey_commands.specs.bio_enrollment.FingerprintKind.{fingerprint_kind_of, fingerprint_kind_byte}
+use Rattle.passkey_commands.specs.bio_enrollment.SampleStatus.{sample_status_of, sample_status_byte}
 use Rattle.passkey_commands.specs.bio_enrollment.BioParameters.{bio_parameters}
 use Rattle.passkey_commands.specs.bio_enrollment.BioRequest.{bio_request, normal_bio_request}
 use Rattle.passkey_commands.specs.bio_enrollment.TemplateInfo.{template_info}
 use Rattle.passkey_commands.specs.bio_enrollment.BioResponse.{bio_response, normal_bio_response}
-
--- ---- each number is that of its value
-
-pub sub_commands_keep : (n : ℕ) → sub_command_byte (sub_command_of n) ≡ n
-sub_commands_keep = code_keeps sub_command_byte sub_command.Other named_sub_commands (λ n. refl)
-
-pub modalitys_keep : (n : ℕ) → modality_byte (modality_of n) ≡ n
-modalitys_keep = code_keeps modality_byte modality.Other named_modalitys (λ n. refl)
-
-pub fingerprint_kinds_keep : (n : ℕ) → fingerprint_kind_byte (fingerprint_kind_of n) ≡ n
-fingerprint_kinds_keep = code_keeps fingerprint_kind_byte fingerprint_kind.Other named_fingerprint_kinds (λ n. refl)
-
-pub sample_statuss_keep : (n : ℕ) → sample_status_byte (sample_status_of n) ≡ n
-sample_statuss_keep = code_keeps sample_status_byte sample_status.Other named_sample_statuss (λ n. refl)
 
 -- ---- parameters
 

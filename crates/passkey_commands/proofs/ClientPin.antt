@@ -1,16 +1,10 @@
 -- Messages of authenticatorClientPIN: decoding their encodings again, their nesting levels, and their canonical form.
-use Rattle.passkey_kinds.proofs.Numbered.{code_back, code_keeps, not_null_back, not_null_around, keeping_law, IsKeeping}
+use Rattle.passkey_kinds.proofs.Numbered.{code_back, not_null_back, not_null_around, keeping_law, IsKeeping}
 use Rattle.passkey_kinds.proofs.Steps.{optional_keeps, arith, shortest_head, truth_back, plainly, puts_value, puts_default, no_more, ◌▸◌, refl, byte_back, word_back, text_back, bytes_back, anything, optional_place}
 use Rattle.passkey_commands.specs.client_pin.PinRequest.{pin_request, normal_pin_request}
 use Rattle.passkey_commands.specs.client_pin.PinResponse.{pin_response}
-use Rattle.passkey_commands.specs.client_pin.SubCommand.{sub_command_of, sub_command_byte, named_sub_commands}
-use Rattle.passkey_commands.specs.declared.client_pin.sub_command.SubCommand.TheVariants.{Other}
+use Rattle.passkey_commands.specs.client_pin.SubCommand.{sub_command_of, sub_command_byte}
 use Rattle.std.proofs.Common.{ℕ, ◌≡◌}
-
--- ---- subcommands
-
-pub sub_commands_keep : (n : ℕ) → sub_command_byte (sub_command_of n) ≡ n
-sub_commands_keep = code_keeps sub_command_byte Other named_sub_commands (λ n. refl)
 
 -- ---- requests
 

@@ -1,16 +1,10 @@
 -- The request of authenticatorConfig, and parameters of its subcommands: decoding their encodings again, their nesting levels, and their canonical form.
-use Rattle.passkey_kinds.proofs.Numbered.{code_back, code_keeps, long_back, not_null_back, not_null_around, numbered_law, keeping_law, IsKeeping, IsNumbered}
+use Rattle.passkey_kinds.proofs.Numbered.{code_back, long_back, not_null_back, not_null_around, numbered_law, keeping_law, IsKeeping, IsNumbered}
 use Rattle.passkey_kinds.proofs.Steps.{optional_keeps, arith, shortest_head, truth_back, plainly, list_plain, puts_value, puts_default, no_more, ◌▸◌, refl, byte_back, word_back, text_back, bytes_back, anything, all_of_anything, optional_place, list_same, ℕ, ◌≡◌}
-use Rattle.passkey_commands.specs.config.SubCommand.{sub_command_of, sub_command_byte, named_sub_commands}
-use Rattle.passkey_commands.specs.declared.config.sub_command.SubCommand.TheVariants as sub_command
+use Rattle.passkey_commands.specs.config.SubCommand.{sub_command_of, sub_command_byte}
 use Rattle.passkey_commands.specs.config.CfgRequest.{cfg_request, normal_cfg_request}
 use Rattle.passkey_commands.specs.config.MinPinLengthParameters.{min_pin_length_parameters}
 use Rattle.passkey_commands.specs.config.VendorParameters.{vendor_parameters}
-
--- ---- each number is that of its value
-
-pub sub_commands_keep : (n : ℕ) → sub_command_byte (sub_command_of n) ≡ n
-sub_commands_keep = code_keeps sub_command_byte sub_command.Other named_sub_commands (λ n. refl)
 
 -- ---- requests
 

@@ -1,22 +1,12 @@
 -- Messages of authenticatorCredentialManagement: decoding their encodings again, their nesting levels, and their canonical form.
-use Rattle.passkey_kinds.proofs.Numbered.{code_back, code_place, code_keeps, not_null_back, not_null_around, numbered_law, keeping_law, IsKeeping, IsNumbered, IsNumberedAs}
+use Rattle.passkey_kinds.proofs.Numbered.{code_back, code_place, not_null_back, not_null_around, numbered_law, keeping_law, IsKeeping, IsNumbered, IsNumberedAs}
 use Rattle.passkey_kinds.proofs.Steps.{optional_keeps, arith, shortest_head, truth_back, plainly, puts_value, puts_default, no_more, ◌▸◌, refl, byte_back, word_back, bytes_back, anything, optional_place, descriptor_law, ℕ, suc, ◌≡◌}
 use Rattle.passkey_extensions.proofs.Entities.{rp_law, user_law}
-use Rattle.passkey_commands.specs.credential_management.SubCommand.{sub_command_of, sub_command_byte, named_sub_commands}
-use Rattle.passkey_commands.specs.declared.credential_management.sub_command.SubCommand.TheVariants as sub_command
-use Rattle.passkey_commands.specs.credential_management.CredProtect.{cred_protect_of, cred_protect_byte, named_cred_protects}
-use Rattle.passkey_commands.specs.declared.credential_management.cred_protect.CredProtect.TheVariants as cred_protect
+use Rattle.passkey_commands.specs.credential_management.SubCommand.{sub_command_of, sub_command_byte}
+use Rattle.passkey_commands.specs.credential_management.CredProtect.{cred_protect_of, cred_protect_byte}
 use Rattle.passkey_commands.specs.credential_management.CmParameters.{cm_parameters}
 use Rattle.passkey_commands.specs.credential_management.CmRequest.{cm_request, normal_cm_request}
 use Rattle.passkey_commands.specs.credential_management.CmResponse.{cm_response, normal_cm_response}
-
--- ---- each number is that of its value
-
-pub sub_commands_keep : (n : ℕ) → sub_command_byte (sub_command_of n) ≡ n
-sub_commands_keep = code_keeps sub_command_byte sub_command.Other named_sub_commands (λ n. refl)
-
-pub cred_protects_keep : (n : ℕ) → cred_protect_byte (cred_protect_of n) ≡ n
-cred_protects_keep = code_keeps cred_protect_byte cred_protect.Other named_cred_protects (λ n. refl)
 
 -- ---- parameters
 

@@ -3,4 +3,3 @@ pub mod BioEnrollment
 pub mod CredentialManagement
 pub mod LargeBlobs
 pub mod ConfigLaws
-pub mod Commands

@@ -27,6 +27,10 @@ code_in byte_of other named n = unwrap_or (numbered_value nat_eq byte_of named n
 abbrev pub code_of : {T : Type 0} → (ℕ → T) → Typed T
 code_of of_byte = fixed 1 (wanted.Below 256) (λ i. option_map of_byte (kind.number_from 256 i))
 
+-- a number, by the values that have a name and the value of any other number
+abbrev pub code_among : {T : Type 0} → (T → ℕ) → (ℕ → T) → List T → Typed T
+code_among byte_of other named = code_of (code_in byte_of other named)
+
 abbrev pub code : {T : Type 0} → (ℕ → T) → (T → ℕ) → Coded T
 code of_byte byte_of =
     record { typed = code_of of_byte; tree = λ x. number_tree (byte_of x); Fits = λ x. byte_of x < 2 ^ 8 }

@@ -8,9 +8,9 @@ abbrev pub modality_byte : Modality → ℕ
 modality_byte Fingerprint = 1
 modality_byte (Other n) = n
 
-abbrev pub named_modalitys : List Modality
-named_modalitys = Fingerprint ∷ []
+abbrev pub named_modalities : List Modality
+named_modalities = Fingerprint ∷ []
 
 -- the value of each number
 abbrev pub modality_of : ℕ → Modality
-modality_of = code_in modality_byte Other named_modalitys
+modality_of = code_in modality_byte Other named_modalities

@@ -21,10 +21,10 @@ sample_status_byte NoUserActivity = 13
 sample_status_byte NoUserPresenceTransition = 14
 sample_status_byte (Other n) = n
 
-abbrev pub named_sample_statuss : List SampleStatus
-named_sample_statuss = Good ∷ TooHigh ∷ TooLow ∷ TooLeft ∷ TooRight ∷ TooFast ∷ TooSlow ∷ PoorQuality ∷ TooSkewed
+abbrev pub named_sample_statuses : List SampleStatus
+named_sample_statuses = Good ∷ TooHigh ∷ TooLow ∷ TooLeft ∷ TooRight ∷ TooFast ∷ TooSlow ∷ PoorQuality ∷ TooSkewed
     ∷ TooShort ∷ MergeFailure ∷ Exists ∷ NoUserActivity ∷ NoUserPresenceTransition ∷ []
 
 -- the value of each number
 abbrev pub sample_status_of : ℕ → SampleStatus
-sample_status_of = code_in sample_status_byte Other named_sample_statuss
+sample_status_of = code_in sample_status_byte Other named_sample_statuses

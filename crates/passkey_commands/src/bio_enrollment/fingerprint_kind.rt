@@ -1,6 +1,7 @@
 //! Kinds of fingerprint sensors.
-ghost use Rattle.std.specs.Prelude.{◌≡◌, ◌<◌, ◌^◌, ℕ};
-ghost use Rattle.passkey_commands.specs.bio_enrollment.FingerprintKind.{fingerprint_kind_of, fingerprint_kind_byte};
+ghost use Rattle.std.specs.Prelude.{◌≡◌, ℕ, List, refl};
+ghost use Rattle.passkey_commands.specs.bio_enrollment.FingerprintKind.{fingerprint_kind_byte, named_fingerprint_kinds};
+ghost use Rattle.passkey_commands.specs.declared.bio_enrollment.fingerprint_kind.FingerprintKind.TheVariants.{Other};
 
 use passkey_kinds::Code;
 
@@ -16,17 +17,13 @@ pub enum FingerprintKind {
 }
 
 impl Code for FingerprintKind {
-    ghost of_byte = { fingerprint_kind_of };
-
     ghost byte_of = { fingerprint_kind_byte };
 
-    fn from_byte(byte: u8) -> FingerprintKind {
-        match byte {
-            0x01 => FingerprintKind::Touch,
-            0x02 => FingerprintKind::Swipe,
-            _ => FingerprintKind::Other(byte),
-        }
-    }
+    ghost named = { named_fingerprint_kinds };
+
+    ghost other = { Other };
+
+    ghost other_keeps = { λ n. refl };
 
     fn byte(&self) -> u8 {
         match self {
@@ -36,6 +33,11 @@ impl Code for FingerprintKind {
         }
     }
 
-    #[tactic(auto, using(crate::proofs::BioEnrollment::fingerprint_kinds_keep))]
-    fn keeps_numbers() {}
+    fn named() -> &'static [FingerprintKind] {
+        &[FingerprintKind::Touch, FingerprintKind::Swipe]
+    }
+
+    fn other(byte: u8) -> FingerprintKind {
+        FingerprintKind::Other(byte)
+    }
 }

@@ -1,6 +1,7 @@
 //! Modalities of biometric enrollment.
-ghost use Rattle.std.specs.Prelude.{◌≡◌, ◌<◌, ◌^◌, ℕ};
-ghost use Rattle.passkey_commands.specs.bio_enrollment.Modality.{modality_of, modality_byte};
+ghost use Rattle.std.specs.Prelude.{◌≡◌, ℕ, List, refl};
+ghost use Rattle.passkey_commands.specs.bio_enrollment.Modality.{modality_byte, named_modalities};
+ghost use Rattle.passkey_commands.specs.declared.bio_enrollment.modality.Modality.TheVariants.{Other};
 
 use passkey_kinds::Code;
 
@@ -14,16 +15,13 @@ pub enum Modality {
 }
 
 impl Code for Modality {
-    ghost of_byte = { modality_of };
-
     ghost byte_of = { modality_byte };
 
-    fn from_byte(byte: u8) -> Modality {
-        match byte {
-            0x01 => Modality::Fingerprint,
-            _ => Modality::Other(byte),
-        }
-    }
+    ghost named = { named_modalities };
+
+    ghost other = { Other };
+
+    ghost other_keeps = { λ n. refl };
 
     fn byte(&self) -> u8 {
         match self {
@@ -32,6 +30,11 @@ impl Code for Modality {
         }
     }
 
-    #[tactic(auto, using(crate::proofs::BioEnrollment::modalitys_keep))]
-    fn keeps_numbers() {}
+    fn named() -> &'static [Modality] {
+        &[Modality::Fingerprint]
+    }
+
+    fn other(byte: u8) -> Modality {
+        Modality::Other(byte)
+    }
 }

@@ -1,6 +1,7 @@
 //! Statuses of fingerprint samples.
-ghost use Rattle.std.specs.Prelude.{◌≡◌, ◌<◌, ◌^◌, ℕ};
-ghost use Rattle.passkey_commands.specs.bio_enrollment.SampleStatus.{sample_status_of, sample_status_byte};
+ghost use Rattle.std.specs.Prelude.{◌≡◌, ℕ, List, refl};
+ghost use Rattle.passkey_commands.specs.bio_enrollment.SampleStatus.{sample_status_byte, named_sample_statuses};
+ghost use Rattle.passkey_commands.specs.declared.bio_enrollment.sample_status.SampleStatus.TheVariants.{Other};
 
 use passkey_kinds::Code;
 
@@ -40,29 +41,13 @@ pub enum SampleStatus {
 }
 
 impl Code for SampleStatus {
-    ghost of_byte = { sample_status_of };
-
     ghost byte_of = { sample_status_byte };
 
-    fn from_byte(byte: u8) -> SampleStatus {
-        match byte {
-            0x00 => SampleStatus::Good,
-            0x01 => SampleStatus::TooHigh,
-            0x02 => SampleStatus::TooLow,
-            0x03 => SampleStatus::TooLeft,
-            0x04 => SampleStatus::TooRight,
-            0x05 => SampleStatus::TooFast,
-            0x06 => SampleStatus::TooSlow,
-            0x07 => SampleStatus::PoorQuality,
-            0x08 => SampleStatus::TooSkewed,
-            0x09 => SampleStatus::TooShort,
-            0x0a => SampleStatus::MergeFailure,
-            0x0b => SampleStatus::Exists,
-            0x0d => SampleStatus::NoUserActivity,
-            0x0e => SampleStatus::NoUserPresenceTransition,
-            _ => SampleStatus::Other(byte),
-        }
-    }
+    ghost named = { named_sample_statuses };
+
+    ghost other = { Other };
+
+    ghost other_keeps = { λ n. refl };
 
     fn byte(&self) -> u8 {
         match self {
@@ -84,6 +69,26 @@ impl Code for SampleStatus {
         }
     }
 
-    #[tactic(auto, using(crate::proofs::BioEnrollment::sample_statuss_keep))]
-    fn keeps_numbers() {}
+    fn named() -> &'static [SampleStatus] {
+        &[
+            SampleStatus::Good,
+            SampleStatus::TooHigh,
+            SampleStatus::TooLow,
+            SampleStatus::TooLeft,
+            SampleStatus::TooRight,
+            SampleStatus::TooFast,
+            SampleStatus::TooSlow,
+            SampleStatus::PoorQuality,
+            SampleStatus::TooSkewed,
+            SampleStatus::TooShort,
+            SampleStatus::MergeFailure,
+            SampleStatus::Exists,
+            SampleStatus::NoUserActivity,
+            SampleStatus::NoUserPresenceTransition,
+        ]
+    }
+
+    fn other(byte: u8) -> SampleStatus {
+        SampleStatus::Other(byte)
+    }
 }

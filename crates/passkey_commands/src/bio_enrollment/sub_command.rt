@@ -1,6 +1,7 @@
 //! Subcommands of authenticatorBioEnrollment.
-ghost use Rattle.std.specs.Prelude.{◌≡◌, ◌<◌, ◌^◌, ℕ};
-ghost use Rattle.passkey_commands.specs.bio_enrollment.SubCommand.{sub_command_of, sub_command_byte};
+ghost use Rattle.std.specs.Prelude.{◌≡◌, ℕ, List, refl};
+ghost use Rattle.passkey_commands.specs.bio_enrollment.SubCommand.{sub_command_byte, named_sub_commands};
+ghost use Rattle.passkey_commands.specs.declared.bio_enrollment.sub_command.SubCommand.TheVariants.{Other};
 
 use passkey_kinds::Code;
 
@@ -27,22 +28,13 @@ pub enum SubCommand {
 }
 
 impl Code for SubCommand {
-    ghost of_byte = { sub_command_of };
-
     ghost byte_of = { sub_command_byte };
 
-    fn from_byte(byte: u8) -> SubCommand {
-        match byte {
-            0x01 => SubCommand::EnrollBegin,
-            0x02 => SubCommand::EnrollCaptureNextSample,
-            0x03 => SubCommand::CancelCurrentEnrollment,
-            0x04 => SubCommand::EnumerateEnrollments,
-            0x05 => SubCommand::SetFriendlyName,
-            0x06 => SubCommand::RemoveEnrollment,
-            0x07 => SubCommand::GetFingerprintSensorInfo,
-            _ => SubCommand::Other(byte),
-        }
-    }
+    ghost named = { named_sub_commands };
+
+    ghost other = { Other };
+
+    ghost other_keeps = { λ n. refl };
 
     fn byte(&self) -> u8 {
         match self {
@@ -57,6 +49,19 @@ impl Code for SubCommand {
         }
     }
 
-    #[tactic(auto, using(crate::proofs::BioEnrollment::sub_commands_keep))]
-    fn keeps_numbers() {}
+    fn named() -> &'static [SubCommand] {
+        &[
+            SubCommand::EnrollBegin,
+            SubCommand::EnrollCaptureNextSample,
+            SubCommand::CancelCurrentEnrollment,
+            SubCommand::EnumerateEnrollments,
+            SubCommand::SetFriendlyName,
+            SubCommand::RemoveEnrollment,
+            SubCommand::GetFingerprintSensorInfo,
+        ]
+    }
+
+    fn other(byte: u8) -> SubCommand {
+        SubCommand::Other(byte)
+    }
 }

@@ -1,6 +1,7 @@
 //! Subcommands of authenticatorClientPIN.
-ghost use Rattle.std.specs.Prelude.{◌≡◌, ◌<◌, ◌^◌, ℕ};
-ghost use Rattle.passkey_commands.specs.client_pin.SubCommand.{sub_command_of, sub_command_byte};
+ghost use Rattle.std.specs.Prelude.{◌≡◌, ℕ, List, refl};
+ghost use Rattle.passkey_commands.specs.client_pin.SubCommand.{sub_command_byte, named_sub_commands};
+ghost use Rattle.passkey_commands.specs.declared.client_pin.sub_command.SubCommand.TheVariants.{Other};
 
 use passkey_kinds::Code;
 
@@ -30,23 +31,13 @@ pub enum SubCommand {
 }
 
 impl Code for SubCommand {
-    ghost of_byte = { sub_command_of };
-
     ghost byte_of = { sub_command_byte };
 
-    fn from_byte(byte: u8) -> SubCommand {
-        match byte {
-            1 => SubCommand::GetPinRetries,
-            2 => SubCommand::GetKeyAgreement,
-            3 => SubCommand::SetPin,
-            4 => SubCommand::ChangePin,
-            5 => SubCommand::GetPinToken,
-            6 => SubCommand::GetPinUvAuthTokenUsingUvWithPermissions,
-            7 => SubCommand::GetUvRetries,
-            9 => SubCommand::GetPinUvAuthTokenUsingPinWithPermissions,
-            _ => SubCommand::Other(byte),
-        }
-    }
+    ghost named = { named_sub_commands };
+
+    ghost other = { Other };
+
+    ghost other_keeps = { λ n. refl };
 
     fn byte(&self) -> u8 {
         match self {
@@ -62,6 +53,20 @@ impl Code for SubCommand {
         }
     }
 
-    #[tactic(auto, using(crate::proofs::ClientPin::sub_commands_keep))]
-    fn keeps_numbers() {}
+    fn named() -> &'static [SubCommand] {
+        &[
+            SubCommand::GetPinRetries,
+            SubCommand::GetKeyAgreement,
+            SubCommand::SetPin,
+            SubCommand::ChangePin,
+            SubCommand::GetPinToken,
+            SubCommand::GetPinUvAuthTokenUsingUvWithPermissions,
+            SubCommand::GetUvRetries,
+            SubCommand::GetPinUvAuthTokenUsingPinWithPermissions,
+        ]
+    }
+
+    fn other(byte: u8) -> SubCommand {
+        SubCommand::Other(byte)
+    }
 }

@@ -1,6 +1,7 @@
 //! Subcommands of authenticatorConfig.
-ghost use Rattle.std.specs.Prelude.{◌≡◌, ◌<◌, ◌^◌, ℕ};
-ghost use Rattle.passkey_commands.specs.config.SubCommand.{sub_command_of, sub_command_byte};
+ghost use Rattle.std.specs.Prelude.{◌≡◌, ℕ, List, refl};
+ghost use Rattle.passkey_commands.specs.config.SubCommand.{sub_command_byte, named_sub_commands};
+ghost use Rattle.passkey_commands.specs.declared.config.sub_command.SubCommand.TheVariants.{Other};
 
 use passkey_kinds::Code;
 
@@ -20,19 +21,13 @@ pub enum SubCommand {
 }
 
 impl Code for SubCommand {
-    ghost of_byte = { sub_command_of };
-
     ghost byte_of = { sub_command_byte };
 
-    fn from_byte(byte: u8) -> SubCommand {
-        match byte {
-            0x01 => SubCommand::EnableEnterpriseAttestation,
-            0x02 => SubCommand::ToggleAlwaysUv,
-            0x03 => SubCommand::SetMinPinLength,
-            0xff => SubCommand::VendorPrototype,
-            _ => SubCommand::Other(byte),
-        }
-    }
+    ghost named = { named_sub_commands };
+
+    ghost other = { Other };
+
+    ghost other_keeps = { λ n. refl };
 
     fn byte(&self) -> u8 {
         match self {
@@ -44,6 +39,16 @@ impl Code for SubCommand {
         }
     }
 
-    #[tactic(auto, using(crate::proofs::ConfigLaws::sub_commands_keep))]
-    fn keeps_numbers() {}
+    fn named() -> &'static [SubCommand] {
+        &[
+            SubCommand::EnableEnterpriseAttestation,
+            SubCommand::ToggleAlwaysUv,
+            SubCommand::SetMinPinLength,
+            SubCommand::VendorPrototype,
+        ]
+    }
+
+    fn other(byte: u8) -> SubCommand {
+        SubCommand::Other(byte)
+    }
 }

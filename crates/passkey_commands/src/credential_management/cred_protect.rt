@@ -1,6 +1,7 @@
 //! Credential protection policies.
-ghost use Rattle.std.specs.Prelude.{◌≡◌, ◌<◌, ◌^◌, ℕ};
-ghost use Rattle.passkey_commands.specs.credential_management.CredProtect.{cred_protect_of, cred_protect_byte};
+ghost use Rattle.std.specs.Prelude.{◌≡◌, ℕ, List, refl};
+ghost use Rattle.passkey_commands.specs.credential_management.CredProtect.{cred_protect_byte, named_cred_protects};
+ghost use Rattle.passkey_commands.specs.declared.credential_management.cred_protect.CredProtect.TheVariants.{Other};
 
 use passkey_kinds::Code;
 
@@ -18,18 +19,13 @@ pub enum CredProtect {
 }
 
 impl Code for CredProtect {
-    ghost of_byte = { cred_protect_of };
-
     ghost byte_of = { cred_protect_byte };
 
-    fn from_byte(byte: u8) -> CredProtect {
-        match byte {
-            0x01 => CredProtect::UserVerificationOptional,
-            0x02 => CredProtect::UserVerificationOptionalWithCredentialIdList,
-            0x03 => CredProtect::UserVerificationRequired,
-            _ => CredProtect::Other(byte),
-        }
-    }
+    ghost named = { named_cred_protects };
+
+    ghost other = { Other };
+
+    ghost other_keeps = { λ n. refl };
 
     fn byte(&self) -> u8 {
         match self {
@@ -40,6 +36,15 @@ impl Code for CredProtect {
         }
     }
 
-    #[tactic(auto, using(crate::proofs::CredentialManagement::cred_protects_keep))]
-    fn keeps_numbers() {}
+    fn named() -> &'static [CredProtect] {
+        &[
+            CredProtect::UserVerificationOptional,
+            CredProtect::UserVerificationOptionalWithCredentialIdList,
+            CredProtect::UserVerificationRequired,
+        ]
+    }
+
+    fn other(byte: u8) -> CredProtect {
+        CredProtect::Other(byte)
+    }
 }

@@ -1,6 +1,7 @@
 //! Subcommands of authenticatorCredentialManagement.
-ghost use Rattle.std.specs.Prelude.{◌≡◌, ◌<◌, ◌^◌, ℕ};
-ghost use Rattle.passkey_commands.specs.credential_management.SubCommand.{sub_command_of, sub_command_byte};
+ghost use Rattle.std.specs.Prelude.{◌≡◌, ℕ, List, refl};
+ghost use Rattle.passkey_commands.specs.credential_management.SubCommand.{sub_command_byte, named_sub_commands};
+ghost use Rattle.passkey_commands.specs.declared.credential_management.sub_command.SubCommand.TheVariants.{Other};
 
 use passkey_kinds::Code;
 
@@ -28,22 +29,13 @@ pub enum SubCommand {
 }
 
 impl Code for SubCommand {
-    ghost of_byte = { sub_command_of };
-
     ghost byte_of = { sub_command_byte };
 
-    fn from_byte(byte: u8) -> SubCommand {
-        match byte {
-            0x01 => SubCommand::GetCredsMetadata,
-            0x02 => SubCommand::EnumerateRpsBegin,
-            0x03 => SubCommand::EnumerateRpsGetNextRp,
-            0x04 => SubCommand::EnumerateCredentialsBegin,
-            0x05 => SubCommand::EnumerateCredentialsGetNextCredential,
-            0x06 => SubCommand::DeleteCredential,
-            0x07 => SubCommand::UpdateUserInformation,
-            _ => SubCommand::Other(byte),
-        }
-    }
+    ghost named = { named_sub_commands };
+
+    ghost other = { Other };
+
+    ghost other_keeps = { λ n. refl };
 
     fn byte(&self) -> u8 {
         match self {
@@ -58,6 +50,19 @@ impl Code for SubCommand {
         }
     }
 
-    #[tactic(auto, using(crate::proofs::CredentialManagement::sub_commands_keep))]
-    fn keeps_numbers() {}
+    fn named() -> &'static [SubCommand] {
+        &[
+            SubCommand::GetCredsMetadata,
+            SubCommand::EnumerateRpsBegin,
+            SubCommand::EnumerateRpsGetNextRp,
+            SubCommand::EnumerateCredentialsBegin,
+            SubCommand::EnumerateCredentialsGetNextCredential,
+            SubCommand::DeleteCredential,
+            SubCommand::UpdateUserInformation,
+        ]
+    }
+
+    fn other(byte: u8) -> SubCommand {
+        SubCommand::Other(byte)
+    }
 }

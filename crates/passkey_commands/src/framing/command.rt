@@ -1,7 +1,9 @@
 //! Commands to an authenticator.
-ghost use Rattle.std.specs.Prelude.{◌≡◌, ◌<◌, ◌^◌, ℕ};
-ghost use Rattle.passkey_commands.specs.framing.Command.{command_of, command_byte};
+ghost use Rattle.std.specs.Prelude.{◌≡◌, ℕ, List, refl};
+ghost use Rattle.passkey_commands.specs.framing.Command.{command_byte, named_commands};
+ghost use Rattle.passkey_commands.specs.declared.framing.command.Command.TheVariants.{Other};
 
+use passkey_core::Ctap2Command;
 use passkey_kinds::Code;
 
 /// A command to an authenticator, with its byte (CTAP 2.1, section 6).
@@ -39,34 +41,19 @@ pub enum Command {
 }
 
 impl Code for Command {
-    ghost of_byte = { command_of };
-
     ghost byte_of = { command_byte };
 
-    fn from_byte(byte: u8) -> Command {
-        match byte {
-            0x01 => Command::MakeCredential,
-            0x02 => Command::GetAssertion,
-            0x04 => Command::GetInfo,
-            0x06 => Command::ClientPin,
-            0x07 => Command::Reset,
-            0x08 => Command::GetNextAssertion,
-            0x09 => Command::BioEnrollment,
-            0x0a => Command::CredentialManagement,
-            0x0b => Command::Selection,
-            0x0c => Command::LargeBlobs,
-            0x0d => Command::Config,
-            0x40 => Command::PrototypeBioEnrollment,
-            0x41 => Command::PrototypeCredentialManagement,
-            _ => Command::Other(byte),
-        }
-    }
+    ghost named = { named_commands };
+
+    ghost other = { Other };
+
+    ghost other_keeps = { λ n. refl };
 
     fn byte(&self) -> u8 {
         match self {
-            Command::MakeCredential => 0x01,
-            Command::GetAssertion => 0x02,
-            Command::GetInfo => 0x04,
+            Command::MakeCredential => Ctap2Command::MakeCredential.into(),
+            Command::GetAssertion => Ctap2Command::GetAssertion.into(),
+            Command::GetInfo => Ctap2Command::GetInfo.into(),
             Command::ClientPin => 0x06,
             Command::Reset => 0x07,
             Command::GetNextAssertion => 0x08,
@@ -81,6 +68,25 @@ impl Code for Command {
         }
     }
 
-    #[tactic(auto, using(crate::proofs::Commands::commands_keep))]
-    fn keeps_numbers() {}
+    fn named() -> &'static [Command] {
+        &[
+            Command::MakeCredential,
+            Command::GetAssertion,
+            Command::GetInfo,
+            Command::ClientPin,
+            Command::Reset,
+            Command::GetNextAssertion,
+            Command::BioEnrollment,
+            Command::CredentialManagement,
+            Command::Selection,
+            Command::LargeBlobs,
+            Command::Config,
+            Command::PrototypeBioEnrollment,
+            Command::PrototypeCredentialManagement,
+        ]
+    }
+
+    fn other(byte: u8) -> Command {
+        Command::Other(byte)
+    }
 }
