@@ -3,7 +3,7 @@ use Rattle.std.specs.Prelude.{◌≡◌, ℕ, List, true, is_ok, IsOk, Option, S
 use Rattle.passkey_core.specs.DataParts.{DataParts}
 use Rattle.passkey_core.specs.DataReading.{ReadsData}
 use Rattle.passkey_cose.specs.KeyReading.{read_key}
-use Rattle.passkey_describe_data.specs.Described.{described_data, described_item, described_key}
+use Rattle.passkey_explain.specs.DescribedData.{described_data, described_item, described_key}
 use Rattle.passkey_explain.specs.Described.{described}
 use Rattle.passkey_explain_data.specs.DataLength.{IsDataLength}
 use Rattle.passkey_kinds.specs.Message.{Begins}

@@ -5,5 +5,6 @@ pub mod Parts
 pub mod Way
 pub mod Explaining
 pub mod Describing
+pub mod DescribingData
 pub mod LeavesOut
 pub mod DropLaws

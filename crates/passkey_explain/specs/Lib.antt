@@ -3,6 +3,7 @@ pub mod Blaming
 pub mod Next
 pub mod Refusing
 pub mod Described
+pub mod DescribedData
 pub mod Along
 pub mod Explains
 pub mod Dropped

@@ -6,7 +6,7 @@ use crate::{
 };
 use passkey_cbor::Value;
 use passkey_cose::CoseError;
-use passkey_describe_data::parameter_name;
+use passkey_explain::parameter_name;
 use std::fmt;
 
 fn write_label<W: fmt::Write>(

@@ -9,8 +9,9 @@ use passkey_attestation::AttestationFormat;
 use passkey_catalogue::{Form, visit};
 use passkey_cbor::Value;
 use passkey_core::AuthenticatorData;
-use passkey_describe_data::{describe_data, describe_item, describe_key};
-use passkey_explain::{Description, Extent, describe, dropped, explain};
+use passkey_explain::{
+    Description, Extent, describe, describe_data, describe_item, describe_key, dropped, explain,
+};
 use passkey_explain_data::{explain_data, explain_key, explain_statement};
 use passkey_kinds::Message;
 use passkey_memory::OutOfMemory;

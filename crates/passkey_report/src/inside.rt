@@ -3,8 +3,7 @@
 use passkey_cbor::Value;
 use passkey_core::AuthenticatorData;
 use passkey_cose::CoseError;
-use passkey_describe_data::{describe_data, describe_item, describe_key};
-use passkey_explain::{Description, FieldName};
+use passkey_explain::{Description, FieldName, describe_data, describe_item, describe_key};
 use passkey_kinds::Wanted;
 use passkey_memory::OutOfMemory;
 use std::alloc::Global;

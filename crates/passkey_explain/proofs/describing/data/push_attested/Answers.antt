@@ -4,9 +4,9 @@ use Rattle.passkey_core.specs.DataViews.{attested_parts}
 use Rattle.passkey_explain.specs.Described.{leaf}
 use Rattle.passkey_kinds.specs.declared.wanted.Wanted.TheVariants as wanted
 use Rattle.passkey_cbor.proofs.Gathering.{ok_then}
-use Rattle.passkey_describe_data.proofs.Describing.{pushed_as, three_pushed}
-use Rattle.passkey_describe_data.specs.Described.{described_key, field_of}
-use Rattle.passkey_describe_data.proofs.data.push_attested.Goals as goal
+use Rattle.passkey_explain.proofs.DescribingData.{pushed_as, three_pushed}
+use Rattle.passkey_explain.specs.DescribedData.{described_key, field_of}
+use Rattle.passkey_explain.proofs.describing.data.push_attested.Goals as goal
 
 pub returns : goal.returns
 returns c =

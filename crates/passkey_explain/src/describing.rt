@@ -1,6 +1,5 @@
 //! What is in data items of which no table is known, in COSE keys and in authenticator data, as
-//! `passkey_explain` describes messages.
-#![tactic(auto)]
+//! messages are described.
 
 mod data;
 mod item;

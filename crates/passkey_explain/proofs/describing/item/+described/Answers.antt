@@ -6,9 +6,9 @@ use Rattle.passkey_cbor.specs.View.{item_of, pair_of}
 use Rattle.passkey_cbor.specs.declared.value.Value.{Value}
 use Rattle.passkey_explain.proofs.Describing.{described_of-List, described_of-Map}
 use Rattle.passkey_explain.specs.Described.{Described, Part, element, labelled, list, map_of, parts, parts_from}
-use Rattle.passkey_describe_data.proofs.Describing.{elements_described, pairs_described}
-use Rattle.passkey_describe_data.specs.Described.{described_item}
-use Rattle.passkey_describe_data.proofs.item.+described.Goals as goal
+use Rattle.passkey_explain.proofs.DescribingData.{elements_described, pairs_described}
+use Rattle.passkey_explain.specs.DescribedData.{described_item}
+use Rattle.passkey_explain.proofs.describing.item.+described.Goals as goal
 
 pub describe_as-returns-in_ok-describe_elements-in-Array : goal.describe_as-returns-in_ok-describe_elements-in-Array
 describe_as-returns-in_ok-describe_elements-in-Array t c =

@@ -4,10 +4,10 @@ ghost use Rattle.passkey_cbor.specs.View.{item_of, pair_of};
 ghost use Rattle.passkey_explain.specs.Described as spec;
 ghost use Rattle.passkey_explain.specs.Described.{described_of, labelled};
 ghost use Rattle.passkey_kinds.specs.declared.wanted.Wanted.TheVariants as wanted;
-ghost use Rattle.passkey_describe_data.specs.Described.{described_item, wanted_by};
+ghost use Rattle.passkey_explain.specs.DescribedData.{described_item, wanted_by};
 
+use crate::description::Description;
 use passkey_cbor::Value;
-use passkey_explain::Description;
 use passkey_kinds::Wanted;
 use passkey_memory::OutOfMemory;
 use std::alloc::Global;

@@ -3,7 +3,7 @@ use Rattle.std.proofs.Common.{◌≡◌, ◌∙◌, ℕ, List, [], ◌∷◌, �
 use Rattle.passkey_cbor.specs.Item.{Item, items_of, pairs_of}
 use Rattle.passkey_explain.specs.Described.{Described, Part, Parts, part, parts_from, element, key, member, labelled}
 use Rattle.passkey_kinds.specs.declared.wanted.Wanted.TheVariants as wanted
-use Rattle.passkey_describe_data.specs.Described.{described_item, described_elements, described_pairs, wanted_by}
+use Rattle.passkey_explain.specs.DescribedData.{described_item, described_elements, described_pairs, wanted_by}
 
 pub elements_described : (xs : List Item) → described_elements (items_of xs)
     ≡ parts_from (map (λ d. labelled element d) (map (described_item wanted.Any) xs))

@@ -6,13 +6,13 @@ ghost use Rattle.passkey_core.specs.DataFlags.{has_flag};
 ghost use Rattle.passkey_core.specs.DataViews.{attested_parts, data_parts};
 ghost use Rattle.passkey_explain.specs.Described as spec;
 ghost use Rattle.passkey_explain.specs.Described.{described_of, labelled};
-ghost use Rattle.passkey_describe_data.specs.Described.{field_of, attested_part, counter_leaf, described_data, described_flags, extensions_part, flag_part, if_present};
+ghost use Rattle.passkey_explain.specs.DescribedData.{field_of, attested_part, counter_leaf, described_data, described_flags, extensions_part, flag_part, if_present};
 
-use crate::item::describe_item;
-use crate::key::{describe_key, text_leaf};
+use crate::describing::item::describe_item;
+use crate::describing::key::{describe_key, text_leaf};
+use crate::description::{Description, FieldName};
 use passkey_cbor::{Integer, Value};
 use passkey_core::{AttestedCredentialData, AuthenticatorData};
-use passkey_explain::{Description, FieldName};
 use passkey_kinds::Wanted;
 use passkey_memory::OutOfMemory;
 use std::alloc::Global;
@@ -130,16 +130,31 @@ fn push_extensions_where(
 
 /// Describes the parts of authenticator data (WebAuthn Level 3, section 6.1), the flags by their
 /// abbreviations. Returns `OutOfMemory` if an allocation fails.
-pub fn describe_data(alloc: Global, data: &AuthenticatorData) -> Result<Description, OutOfMemory>
-    ensures { IfOk result (λ d. described_of d ≡ described_data (data_parts data.now)) }
+pub fn describe_data(
+    alloc: Global,
+    authenticator_data: &AuthenticatorData,
+) -> Result<Description, OutOfMemory>
+    ensures { IfOk result (λ d. described_of d ≡ described_data (data_parts authenticator_data.now)) }
 {
     let mut fields = Vec::new(alloc);
-    let hash = bytes_leaf(alloc, Wanted::SizedBytes(32), data.rp_id_hash())?;
+    let hash = bytes_leaf(
+        alloc,
+        Wanted::SizedBytes(32),
+        authenticator_data.rp_id_hash(),
+    )?;
     push_field(&mut fields, "rpIdHash", hash)?;
-    let flags = describe_flags(alloc, u8::from(data.flags))?;
+    let flags = describe_flags(alloc, u8::from(authenticator_data.flags))?;
     push_field(&mut fields, "flags", flags)?;
-    push_field(&mut fields, "signCount", counter_leaf(data.counter))?;
-    push_attested_where(alloc, &mut fields, &data.attested_credential_data)?;
-    push_extensions_where(alloc, &mut fields, &data.extensions)?;
+    push_field(
+        &mut fields,
+        "signCount",
+        counter_leaf(authenticator_data.counter),
+    )?;
+    push_attested_where(
+        alloc,
+        &mut fields,
+        &authenticator_data.attested_credential_data,
+    )?;
+    push_extensions_where(alloc, &mut fields, &authenticator_data.extensions)?;
     Ok(Description::Record(fields))
 }

@@ -6,13 +6,13 @@ use Rattle.passkey_explain.specs.Described.{Part, leaf, parts, parts_from, recor
 use Rattle.passkey_explain.specs.declared.description.Description.{Description}
 use Rattle.passkey_explain.specs.declared.description.FieldName.{FieldName}
 use Rattle.passkey_kinds.specs.declared.wanted.Wanted.TheVariants as wanted
-use Rattle.passkey_describe_data.proofs.Describing.{pushed_as, three_pushed}
-use Rattle.passkey_describe_data.specs.Described.{attested_part, described_flags, extensions_part, field_of, fixed_part, if_present}
-use Rattle.passkey_describe_data.proofs.data.describe_data.Goals as goal
+use Rattle.passkey_explain.proofs.DescribingData.{pushed_as, three_pushed}
+use Rattle.passkey_explain.specs.DescribedData.{attested_part, described_flags, extensions_part, field_of, fixed_part, if_present}
+use Rattle.passkey_explain.proofs.describing.data.describe_data.Goals as goal
 
 pub returns : goal.returns
 returns c =
-    let d = data_parts c.args.data.now in
+    let d = data_parts c.args.authenticator_data.now in
     let none = map field_of c.new-fields.result.items in
     let one = map field_of c.push_field.new.fields.items in
     let two = map field_of c.push_field-2.new.fields.items in

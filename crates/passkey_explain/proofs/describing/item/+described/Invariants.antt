@@ -2,8 +2,8 @@ use Rattle.std.proofs.Common.{◌≡◌, map, take}
 use Rattle.passkey_cbor.specs.View.{item_of, pair_of}
 use Rattle.passkey_explain.specs.Described.{described_of, key, labelled}
 use Rattle.passkey_kinds.specs.declared.wanted.Wanted.TheVariants as wanted
-use Rattle.passkey_describe_data.specs.Described.{described_item, wanted_by}
-use Rattle.passkey_describe_data.proofs.item.+described.Given as goal
+use Rattle.passkey_explain.specs.DescribedData.{described_item, wanted_by}
+use Rattle.passkey_explain.proofs.describing.item.+described.Given as goal
 
 abbrev pub invariant-describe_elements-loop-element : goal.invariant-describe_elements-loop-element
 invariant-describe_elements-loop-element l =
