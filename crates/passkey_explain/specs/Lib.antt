@@ -8,3 +8,4 @@ pub mod Along
 pub mod Explains
 pub mod Dropped
 pub mod Drops
+pub mod Texts

@@ -4,8 +4,8 @@
 
 mod along;
 mod blame;
+mod data_items;
 mod descent;
-mod describing;
 mod description;
 mod display;
 mod dropping;
@@ -13,8 +13,8 @@ mod explanation;
 
 pub use along::{Extent, locate};
 pub use blame::{Blame, Reason, Step};
+pub use data_items::{describe_data, describe_item, describe_key, parameter_name};
 pub use descent::explain_at;
-pub use describing::{describe_data, describe_item, describe_key, parameter_name};
 pub use description::{Description, FieldName, describe};
 pub use dropping::{DroppedItem, dropped};
 pub use explanation::{Explanation, RefusedItem, explain};

@@ -8,7 +8,7 @@ use Rattle.passkey_cose.specs.KeyLabels.{Members}
 use Rattle.passkey_explain.proofs.Describing.{described_of-Record}
 use Rattle.passkey_explain.specs.Described.{Described, Part, parts, parts_from, record_of_members}
 use Rattle.passkey_explain.specs.DescribedData.{described_key, described_member, type_in, type_of}
-use Rattle.passkey_explain.proofs.describing.key.describe_key.Goals as goal
+use Rattle.passkey_explain.proofs.data_items.key.describe_key.Goals as goal
 
 pub returns-in_ok-describe_members-in-Map : goal.returns-in_ok-describe_members-in-Map
 returns-in_ok-describe_members-in-Map c =

@@ -6,7 +6,7 @@ use Rattle.passkey_kinds.specs.declared.wanted.Wanted.TheVariants as wanted
 use Rattle.passkey_cbor.proofs.Gathering.{ok_then}
 use Rattle.passkey_explain.proofs.DescribingData.{pushed_as, three_pushed}
 use Rattle.passkey_explain.specs.DescribedData.{described_key, field_of}
-use Rattle.passkey_explain.proofs.describing.data.push_attested.Goals as goal
+use Rattle.passkey_explain.proofs.data_items.data.push_attested.Goals as goal
 
 pub returns : goal.returns
 returns c =

@@ -4,7 +4,7 @@ use Rattle.passkey_cbor.specs.declared.value.Value.{Value}
 use Rattle.passkey_cbor.proofs.Gathering.{ok_then}
 use Rattle.passkey_explain.proofs.DescribingData.{pushed_as}
 use Rattle.passkey_explain.specs.DescribedData.{extensions_part, field_of, if_present}
-use Rattle.passkey_explain.proofs.describing.data.push_extensions_where.Goals as goal
+use Rattle.passkey_explain.proofs.data_items.data.push_extensions_where.Goals as goal
 
 pub returns-in_ok-extensions-in-Some : goal.returns-in_ok-extensions-in-Some
 returns-in_ok-extensions-in-Some c =

@@ -8,7 +8,7 @@ use Rattle.passkey_explain.specs.declared.description.FieldName.{FieldName}
 use Rattle.passkey_kinds.specs.declared.wanted.Wanted.TheVariants as wanted
 use Rattle.passkey_explain.proofs.DescribingData.{pushed_as, three_pushed}
 use Rattle.passkey_explain.specs.DescribedData.{attested_part, described_flags, extensions_part, field_of, fixed_part, if_present}
-use Rattle.passkey_explain.proofs.describing.data.describe_data.Goals as goal
+use Rattle.passkey_explain.proofs.data_items.data.describe_data.Goals as goal
 
 pub returns : goal.returns
 returns c =

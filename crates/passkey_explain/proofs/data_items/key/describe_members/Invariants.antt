@@ -1,7 +1,7 @@
 use Rattle.std.proofs.Common.{◌≡◌, map, take}
 use Rattle.passkey_cbor.specs.View.{pair_of}
 use Rattle.passkey_explain.specs.DescribedData.{described_member, field_of, type_of}
-use Rattle.passkey_explain.proofs.describing.key.describe_members.Given as goal
+use Rattle.passkey_explain.proofs.data_items.key.describe_members.Given as goal
 
 abbrev pub invariant-loop-label : goal.invariant-loop-label
 invariant-loop-label l =

@@ -3,7 +3,7 @@ use Rattle.passkey_cbor.specs.View.{item_of, pair_of}
 use Rattle.passkey_explain.specs.Described.{described_of, key, labelled}
 use Rattle.passkey_kinds.specs.declared.wanted.Wanted.TheVariants as wanted
 use Rattle.passkey_explain.specs.DescribedData.{described_item, wanted_by}
-use Rattle.passkey_explain.proofs.describing.item.+described.Given as goal
+use Rattle.passkey_explain.proofs.data_items.item.+described.Given as goal
 
 abbrev pub invariant-describe_elements-loop-element : goal.invariant-describe_elements-loop-element
 invariant-describe_elements-loop-element l =

@@ -8,8 +8,8 @@ ghost use Rattle.passkey_explain.specs.Described as spec;
 ghost use Rattle.passkey_explain.specs.Described.{described_of, labelled};
 ghost use Rattle.passkey_explain.specs.DescribedData.{field_of, attested_part, counter_leaf, described_data, described_flags, extensions_part, flag_part, if_present};
 
-use crate::describing::item::describe_item;
-use crate::describing::key::{describe_key, text_leaf};
+use crate::data_items::item::describe_item;
+use crate::data_items::key::{describe_key, text_leaf};
 use crate::description::{Description, FieldName};
 use passkey_cbor::{Integer, Value};
 use passkey_core::{AttestedCredentialData, AuthenticatorData};

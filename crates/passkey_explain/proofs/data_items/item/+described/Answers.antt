@@ -8,7 +8,7 @@ use Rattle.passkey_explain.proofs.Describing.{described_of-List, described_of-Ma
 use Rattle.passkey_explain.specs.Described.{Described, Part, element, labelled, list, map_of, parts, parts_from}
 use Rattle.passkey_explain.proofs.DescribingData.{elements_described, pairs_described}
 use Rattle.passkey_explain.specs.DescribedData.{described_item}
-use Rattle.passkey_explain.proofs.describing.item.+described.Goals as goal
+use Rattle.passkey_explain.proofs.data_items.item.+described.Goals as goal
 
 pub describe_as-returns-in_ok-describe_elements-in-Array : goal.describe_as-returns-in_ok-describe_elements-in-Array
 describe_as-returns-in_ok-describe_elements-in-Array t c =
