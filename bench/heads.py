@@ -3,7 +3,7 @@
 for messages of the further commands, and for authenticator data that are whole, cut off or in chunks; with --stdout what they have to
 print: the heads and the nodes that decoding the message at a cursor counts, and whether it is accepted.
 
-The counts are worked out here, from the message alone, by what docs/CONTRACTS.md says of each call and docs/DECISIONS.md of the
+The counts are worked out here, from the message alone, by what the README of passkey_cbor says of each call and docs/DECISIONS.md of the
 order of calls: a message is skipped once, and each value is then decoded once, from left to right; what is refused where that is
 tolerated is skipped as well."""
 import sys
