@@ -1,6 +1,6 @@
 #!/usr/bin/env python3
 """heads.py [--stdout] prints rows of crates/passkey_rows, `heads-KIND MESSAGE` for each message of hostile.py in a small size,
-for messages of the further commands, and for authenticator data that are whole, cut off or in chunks; with --stdout what they have to
+for messages of the other commands, and for authenticator data that are whole, cut off or in chunks; with --stdout what they have to
 print: the heads and the nodes that decoding the message at a cursor counts, and whether it is accepted.
 
 The counts are worked out here, from the message alone, by what the README of passkey_cbor says of each call and docs/DECISIONS.md of the
@@ -193,7 +193,7 @@ def kept(item):
 
 
 def part_at(content):
-    """The item that the bytes begin with, or None; the heads and nodes of skipping it and of decoding it; and the bytes behind it."""
+    """The item that the bytes begin with, or None; the heads and nodes of skipping it and of decoding it; and the bytes after it."""
     parser = Parser(content)
     try:
         item = parser.item(MAX_LEVELS)
@@ -381,8 +381,8 @@ def counted(kind, message):
     return f"{item.heads + heads} {nodes} {answer}"
 
 
-def further():
-    """Messages of the further commands: their kinds and bytes."""
+def others():
+    """Messages of the other commands: their kinds and bytes."""
     text, data, pairs, array, chunked = hostile.text, hostile.data, hostile.pairs, hostile.array, hostile.chunked
     key = pairs([(b"\x01", b"\x02"), (b"\x03", b"\x38\x18"), (b"\x20", b"\x01"), (b"\x21", data(b"\x07"))])
     refused = pairs([(b"\x02", text("a")), (b"\x01", b"\xf6")])
@@ -423,7 +423,7 @@ def parts():
 
 
 def main():
-    for kind, message in [*[it[1:] for it in hostile.inputs(10)], *further(), *parts()]:
+    for kind, message in [*[it[1:] for it in hostile.inputs(10)], *others(), *parts()]:
         if sys.argv[1:] == ["--stdout"]:
             print(f"0 {counted(kind, message)}")
         else:

@@ -18,7 +18,7 @@ SHOWN = BYTES + JSON
 
 # The other messages, in hexadecimal, and attestation statements. Some faults of a statement are outputs.
 STATEMENTS = [it for it in kinds.of_bytes() if it.startswith("att-")]
-FURTHER = [it for it in kinds.of_bytes() if it not in SHOWN + STATEMENTS + ["cose-key", "tpm-cert-info", "tpm-pub-area"]]
+OTHERS = [it for it in kinds.of_bytes() if it not in SHOWN + STATEMENTS + ["cose-key", "tpm-cert-info", "tpm-pub-area"]]
 
 
 def rows():

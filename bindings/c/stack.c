@@ -9,7 +9,7 @@
 
 enum { ROOM = 1 << 20, MARK = 0xa5, LEVELS = 256 };
 
-/* An authenticatorGetInfo response: versions and an AAGUID, and behind them a member that it doesn't have. */
+/* An authenticatorGetInfo response: versions and an AAGUID, and after them a member that it doesn't have. */
 #define INFO "\xa3\x01\x81\x68" "FIDO_2_0" "\x03\x50" "0123456789abcdef" "\x18\x60"
 enum { FRONT = sizeof INFO - 1 };
 

@@ -148,7 +148,7 @@ class AuthData:
     credential_id: bytes | None
     public_key: Item | None
     extensions: Item | None
-    #: The offset behind the last part: bytes after it have no meaning.
+    #: The offset after the last part: bytes after it have no meaning.
     end: int
 
 
@@ -253,7 +253,7 @@ def _fault(status: int) -> Fault:
 def rewrite(kind: str, data: bytes) -> bytes:
     """Decodes the data as the kind (one of `KINDS`), and returns its encoding: CTAP2's canonical form, or compact JSON.
 
-    Raises `Fault` if the kind rejects the data, and `MemoryError`. Bytes behind a data item, a message or authenticator data are
+    Raises `Fault` if the kind rejects the data, and `MemoryError`. Bytes after a data item, a message or authenticator data are
     ignored: `rewrite_front` tells where they begin.
     """
     return rewrite_front(kind, data)[0]

@@ -1,7 +1,7 @@
 """The kinds of input. Made by tools/header."""
 
-#: The kinds of `rewrite`, in the order of their numbers in C: of bytes, from `creation` to `client-data` of JSON texts, and then further
-#: ones of bytes.
+#: The kinds of `rewrite`, in the order of their numbers in C: of bytes, from `creation` to `client-data` of JSON texts, and then others
+#: of bytes.
 KINDS = (
     "cbor auth mc-request mc-response ga-request ga-response info hmac-input creation request created authenticated client-data "
     "pin-request pin-response bio-request bio-response cm-request cm-response lb-request lb-response lb-entry cfg-request "

@@ -1,6 +1,6 @@
 //! The kinds of input. Made by `tools/header`.
 
-/// What an input is decoded as: bytes, JSON texts from `Creation` to `ClientData`, and further kinds
+/// What an input is decoded as: bytes, JSON texts from `Creation` to `ClientData`, and other kinds
 /// of bytes.
 #[repr(u32)]
 #[derive(Clone, Copy, Debug, PartialEq, Eq)]
