@@ -28,7 +28,7 @@ use Rattle.passkey_kinds.specs.declared.wanted.Wanted.TheVariants as wanted
 pub some_same : {X : Type 0} {x y : X} → Some x ≡ Some y → x ≡ y
 some_same {X} {x} e = ap (λ (o : Option X). unwrap_or o x) e
 
--- ---- one step further on the way
+-- ---- one more step on the way
 
 there_is : {X : Type 0} (o : Option X) → is_some o ≡ true → (x : X) × (o ≡ Some x)
 there_is (Some x) e = (x, refl)

@@ -17,7 +17,7 @@ use Rattle.passkey_kinds.specs.Shape.{Entry, Shape, leaf, record_of, Rows, no_ro
 use Rattle.passkey_cbor.specs.Item as item
 use Rattle.passkey_kinds.specs.Shape as shape
 
--- ---- one step further on the path
+-- ---- one more step on the path
 
 some_item : (o : Option Item) → option_and_then (item_along []) o ≡ o
 some_item (Some i) = refl

@@ -135,7 +135,7 @@ fn explain_kind(
     }
 }
 
-/// Returns a line feed, and what in the value the kind refuses; or no text of further kinds, which
+/// Returns a line feed, and what in the value the kind refuses; or no text of other kinds, which
 /// aren't explained.
 fn kind_blame(alloc: Global, kind: InspectKind, value: &Value) -> Result<String, OutOfMemory> {
     let InspectKind::Json(kind) = kind else {

@@ -1,5 +1,5 @@
 //! Client data (WebAuthn Level 3, section 5.8.1), worked out by hand. The rows of the program also
-//! contain client data without further members.
+//! contain client data without other members.
 
 use crate::json::{assert_shows, displayed, parsed};
 use indexmap::IndexMap;

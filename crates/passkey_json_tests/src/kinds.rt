@@ -1,5 +1,5 @@
 //! What JSON values decode to, worked out by hand from WebAuthn Level 3 and RFC 4648. The rows of
-//! the program contain further values.
+//! the program contain other values.
 use crate::json::assert_reads;
 use passkey_bytes::{Bytes, List, Map, Text};
 use passkey_iana::Algorithm;

@@ -1,5 +1,5 @@
 //! Records that are decoded from objects and encoded, worked out by hand from WebAuthn Level 3 and
-//! RFC 4648. The rows of the program contain further objects.
+//! RFC 4648. The rows of the program contain other objects.
 use crate::json::{assert_reads, assert_rewrites, assert_shows, parsed, record, written};
 use passkey_json::BytesForm::{Base64Url, Numbers};
 use passkey_json::{

@@ -1,4 +1,4 @@
-//! Data items that aren't divided further.
+//! Data items that aren't divided.
 ghost use Rattle.std.specs.Prelude.{◌≡◌, IfOk, length, string_bytes};
 ghost use Rattle.uuid.specs.Text.{hyphenated_text, lower};
 ghost use Rattle.passkey_report.specs.Json.{algorithm_in, algorithm_name};

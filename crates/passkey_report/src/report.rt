@@ -47,14 +47,14 @@ fn push_elements(
     Ok(())
 }
 
-/// Returns whether no element of the list is divided further.
+/// Returns whether no element of the list is divided.
 fn is_line(items: &[Description]) -> bool {
     items
         .iter()
         .all(|item| matches!(item, Description::Leaf(_, _)))
 }
 
-/// Appends elements that aren't divided further, in a line.
+/// Appends elements that aren't divided, in a line.
 fn push_line(out: &mut String, alloc: Global, items: &[Description]) -> Result<(), OutOfMemory> {
     for (index, item) in items.iter().enumerate() {
         out.push_str(if index == 0 { " " } else { ", " })?;
@@ -119,7 +119,7 @@ fn push_value(
 }
 
 /// Returns a report of a description, whose first line begins with this title: one member a line,
-/// those inside another two spaces deeper, and in a line a list of what isn't divided further. Texts
+/// those inside another two spaces deeper, and in a line a list of what isn't divided. Texts
 /// of the input are in diagnostic notation, but for one where a name of the standard is wanted: it
 /// stands as it is if it has only letters, digits, hyphens and underscores of ASCII. Returns
 /// `OutOfMemory` if an allocation fails.

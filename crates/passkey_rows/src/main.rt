@@ -1,6 +1,6 @@
 //! `passkey_rows` reads rows from standard input, one on each line: a kind, a space and an input.
 //! For each row it prints the exit status of `passkey_show` for that input, a space, and the output
-//! or the fault's line. Rows of further kinds make calls that may run out of memory and that
+//! or the fault's line. Rows of other kinds make calls that may run out of memory and that
 //! `passkey_show` doesn't make; if one of them runs out of memory, it is made again, and the status
 //! is 3. Empty lines, and lines that begin with `#`, are printed unchanged. Each message is decoded
 //! twice, over a cursor and from a data item; if the results differ, a line says so.

@@ -28,7 +28,7 @@ record_rewritten members json d = in_object members d >>= λ x. Ok (compact_text
 abbrev pub table_rewritten : {A : Type 0} → PlainTable A → Data → Result (List ℕ) Fault
 table_rewritten t = record_rewritten (members_in t) (table_json t)
 
--- the JSON text of the client data that the value decodes to, where the caller knows further members
+-- the JSON text of the client data that the value decodes to, where the caller knows other members
 abbrev pub client_data_rewritten : {E : Type 0} → (List ℕ → Bool) → (Object → Result E Fault) → (E → Members) → Data
     → Result (List ℕ) Fault
 client_data_rewritten has reads written d = client_data has reads d >>= client_data_text written

@@ -7,7 +7,7 @@ use passkey_kinds::{
 };
 use std::alloc::Global;
 
-/// The parameters of vendorPrototype (CTAP 2.1, section 6.11.3). Further members are the vendor's,
+/// The parameters of vendorPrototype (CTAP 2.1, section 6.11.3). Other members are the vendor's,
 /// and are skipped.
 #[derive(Debug, Default, Drop)]
 pub struct VendorParameters {

@@ -17,8 +17,8 @@ use std::alloc::Global;
 pub struct Response {
     /// 0x01: the number of discoverable credentials on the authenticator.
     pub existing_resident_credentials_count: Option<u32>,
-    /// 0x02: an upper bound of the number of further discoverable credentials that the
-    /// authenticator has room for.
+    /// 0x02: an upper bound of the number of discoverable credentials that the authenticator still
+    /// has room for.
     pub max_possible_remaining_resident_credentials_count: Option<u32>,
     /// 0x03: the relying party.
     pub rp: Option<PublicKeyCredentialRpEntity>,

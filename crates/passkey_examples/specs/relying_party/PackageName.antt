@@ -1,4 +1,4 @@
--- The further member of client data that this relying party knows.
+-- The member of client data that this relying party knows beside the fixed ones.
 use Rattle.std.specs.Prelude.{◌≡◌, ℕ, Bool, true, List, Option, Some, None, codes, refl}
 use Rattle.std.specs.Str.{bytes_eq}
 use Rattle.passkey_webauthn_json.specs.client_data.ExtraData.{are_extra}

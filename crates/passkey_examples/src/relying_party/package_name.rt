@@ -1,4 +1,4 @@
-//! A further member of client data, decoded by the relying party's own type.
+//! Another member of client data, decoded by the relying party's own type.
 ghost use Rattle.passkey_examples.specs.relying_party.PackageName.{is_package_name, name_members, name_members_are_extra};
 
 use passkey_types::json::{Object, Value};
