@@ -1,10 +1,14 @@
 -- How values are coded as JSON values: decoded, and encoded.
 use denote.Enum.Declared.{Declared}
-use Rattle.std.specs.Prelude.{ℕ, ℤ, Bool, false, List}
+use Rattle.std.specs.Prelude.{ℕ, ℤ, Bool, false, true, is_some, List}
 use Rattle.passkey_bytes.specs.Map.{ByteMap}
 use Rattle.passkey_iana.specs.declared.algorithm.Algorithm.{Algorithm}
 use Rattle.passkey_json.specs.Kind.{Kind, algorithm, bytes, is_array, is_object, is_text, is_text_or_array, list, one_named, text, truth, truth_text, whole, word}
 use Rattle.passkey_json.specs.MapKind.{map_from_texts, map_json}
+use Rattle.passkey_json.specs.Shape.{Shape, leaf}
+use Rattle.passkey_json.specs.Shape as shape
+use Rattle.passkey_json.specs.declared.wanted.WantedJson.{WantedJson}
+use Rattle.passkey_json.specs.declared.wanted.WantedJson.TheVariants as want
 use Rattle.passkey_json.specs.Written.{algorithm_json, bytes_json, list_json, natural_json, whole_json}
 use Rattle.passkey_json.specs.declared.bytes_form.BytesForm.{BytesForm}
 use Rattle.passkey_webauthn.specs.CredentialType.{credential_types}
@@ -16,34 +20,50 @@ use Rattle.passkey_webauthn.specs.declared.credential_type.PublicKeyCredentialTy
 use Rattle.passkey_webauthn.specs.declared.transport.AuthenticatorTransport.{AuthenticatorTransport}
 use Rattle.serde_json.specs.Data.{Data, boolean, string}
 
--- how a value is decoded, which JSON values may take memory to decode, and how it is encoded
+-- how a value is decoded, which JSON values may take memory to decode, how it is encoded, and what it is decoded from,
+-- part by part
 pub record Coded (M : Type 0) : Type 0 where
   pub kind : Kind M
   pub takes : Data → Bool
   pub json : BytesForm → M → Data
+  pub shape : Shape
+
+-- whether the kind accepts a JSON value
+abbrev pub accepts : {A : Type 0} → Kind A → Data → Bool
+accepts kind d = is_some (kind d)
+
+-- an array of values that are all accepted; an array of any values; and an object of accepted values
+abbrev pub list_shape : {A : Type 0} → Kind A → Shape → Shape
+list_shape kind s = shape.list (accepts kind) s
+
+abbrev pub accepted_shape : Shape → Shape
+accepted_shape s = shape.list (λ d. true) s
+
+abbrev pub map_shape : {A : Type 0} → Kind A → Shape → Shape
+map_shape kind s = shape.map (accepts kind) s
 
 -- a value that takes no memory to decode, and is encoded without bytes
-abbrev small_value : {M : Type 0} → Kind M → (M → Data) → Coded M
-small_value kind json = record { kind = kind; takes = λ d. false; json = λ form x. json x }
+abbrev small_value : {M : Type 0} → WantedJson → Kind M → (M → Data) → Coded M
+small_value w kind json = record { kind = kind; takes = λ d. false; json = λ form x. json x; shape = leaf w }
 
 abbrev pub truth_value : Coded Bool
-truth_value = small_value truth boolean
+truth_value = small_value want.Boolean truth boolean
 
 abbrev pub truth_text_value : Coded Bool
-truth_text_value = small_value truth_text boolean
+truth_text_value = small_value want.BooleanText truth_text boolean
 
 abbrev pub word_value : Coded ℕ
-word_value = small_value word natural_json
+word_value = small_value want.Word word natural_json
 
 abbrev pub whole_value : Coded ℤ
-whole_value = small_value whole whole_json
+whole_value = small_value want.Integer whole whole_json
 
 abbrev pub algorithm_value : Coded Algorithm
-algorithm_value = small_value algorithm algorithm_json
+algorithm_value = small_value want.Algorithm algorithm algorithm_json
 
 -- a value of an enumeration, by its name
 abbrev pub named_value : (D : Declared) → Names D.D → Coded D.D
-named_value D names = small_value (one_named (value_in names)) (λ x. string (own_name D names x))
+named_value D names = small_value want.Name (one_named (value_in names)) (λ x. string (own_name D names x))
 
 abbrev pub credential_type_value : Coded PublicKeyCredentialType
 credential_type_value = named_value credential_type credential_types
@@ -52,13 +72,23 @@ abbrev pub transport_value : Coded AuthenticatorTransport
 transport_value = named_value transport transports
 
 abbrev pub text_value : Coded (List ℕ)
-text_value = record { kind = text; takes = is_text; json = λ form s. string s }
+text_value = record { kind = text; takes = is_text; json = λ form s. string s; shape = leaf want.Text }
 
 abbrev pub bytes_value : Coded (List ℕ)
-bytes_value = record { kind = bytes; takes = is_text_or_array; json = bytes_json }
+bytes_value = record { kind = bytes; takes = is_text_or_array; json = bytes_json; shape = leaf want.Bytes }
 
 abbrev pub list_value : {M : Type 0} → Coded M → Coded (List M)
-list_value c = record { kind = list c.kind; takes = is_array; json = λ form. list_json (c.json form) }
+list_value c = record {
+  kind = list c.kind;
+  takes = is_array;
+  json = λ form. list_json (c.json form);
+  shape = list_shape c.kind c.shape;
+}
 
 abbrev pub map_value : {M : Type 0} → Coded M → Coded (ByteMap M)
-map_value c = record { kind = map_from_texts c.kind; takes = is_object; json = λ form. map_json (c.json form) }
+map_value c = record {
+  kind = map_from_texts c.kind;
+  takes = is_object;
+  json = λ form. map_json (c.json form);
+  shape = map_shape c.kind c.shape;
+}

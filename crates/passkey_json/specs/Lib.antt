@@ -2,6 +2,8 @@ pub mod Fault
 pub mod Names
 pub mod Kind
 pub mod Members
+pub mod Shape
+pub mod Look
 pub mod Held
 pub mod Written
 pub mod JsonText

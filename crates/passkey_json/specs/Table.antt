@@ -1,36 +1,28 @@
 -- Records as tables of members: one table says how a record is decoded and how it is encoded.
-use Rattle.std.specs.Prelude.{◌≡◌, ℕ, ◌==◌, ◌||◌, ◌&&◌, not, Bool, true, false, List, [], ◌∷◌, Option, Some, None, option_map, Result, Ok, if◌then◌else◌}
+use Rattle.std.specs.Prelude.{◌≡◌, ℕ, ◌==◌, ◌||◌, ◌&&◌, not, Bool, true, false, List, [], ◌∷◌, Option, Some, None, option_map, Result, Ok, Err, if◌then◌else◌}
 use Rattle.std.specs.Str.{bytes_eq}
-use Rattle.passkey_json.specs.Coded.{Coded, list_value}
+use Rattle.passkey_json.specs.Coded.{Coded, accepts, accepted_shape, list_value}
 use Rattle.passkey_json.specs.Fault.{Fault}
 use Rattle.passkey_json.specs.Kind.{optional, accepted}
 use Rattle.passkey_json.specs.MemberLaws as law
-use Rattle.passkey_json.specs.Members.{◌>>=◌, Object, Member, member, under, aliased, record_kind, takes_at, takes_in, required, required_tolerated, or_default, if_present, tolerated, accepted_list}
+use Rattle.passkey_json.specs.Members.{◌>>=◌, Object, Member, member, under, aliased, in_object, record_kind, takes_at, takes_in, required, required_tolerated, or_default, if_present, tolerated, accepted_list}
 use Rattle.passkey_json.specs.Written.{EncodedMember, ReadsBack, ReadsBackIf, written}
+use Rattle.passkey_json.specs.Shape.{Entry, Shape, Rows, no_rows, row, record_of}
 use Rattle.passkey_json.specs.declared.bytes_form.BytesForm.{BytesForm}
-use Rattle.passkey_json.specs.declared.row.Row.{Row}
-use Rattle.passkey_json.specs.declared.row.Row.TheVariants as row
 use Rattle.serde_json.specs.Data.{Data}
 
 -- ---- members
 
--- a member's number, its name, and its other name if it has one
-pub record Entry : Type 0 where
-  pub number : ℕ
-  pub name : List ℕ
-  pub other : Option (List ℕ)
-
-abbrev pub entry_of : Row → Entry
-entry_of (row.Named number name) = record { number = number; name = name.now; other = None }
-entry_of (row.Aliased number name other) = record { number = number; name = name.now; other = Some other.now }
-
--- A member of the record P: its names; the values whose decoding may take memory; how it is decoded,
+-- A member of the record P: its names; the values whose decoding may take memory; those that are accepted, and what
+-- they are decoded from, part by part; how it is decoded,
 -- which part of the record its value is, and how that is encoded; and what is known of an encoded
 -- one (Back), so that it decodes to the value.
 pub record JsonMember (P : Type 0) : Type 1 where
   pub Value : Type 0
   pub entry : Entry
   pub takes : Data → Bool
+  pub accepts : Data → Bool
+  pub shape : Shape
   pub read : Member → Result Value Fault
   pub get : P → Value
   pub set : Value → P → P
@@ -145,9 +137,26 @@ takes_of t object = take_any t.members object
 abbrev pub table_json : {P : Type 0} → PlainTable P → BytesForm → P → Data
 table_json t form x = written (rows_of t.members form x)
 
+-- the fault, if there is one
+abbrev pub fault_in : {A : Type 0} → Result A Fault → Option Fault
+fault_in (Ok x) = None
+fault_in (Err f) = Some f
+
+abbrev pub rows_in : {P : Type 0} → List (JsonMember P) → Rows
+rows_in [] = no_rows
+rows_in (m ∷ ms) = row m.entry m.accepts m.shape (rows_in ms)
+
+abbrev pub table_shape : {P : Type 0} → PlainTable P → Shape
+table_shape t = record_of (λ d. fault_in (in_object (members_in t) d)) (rows_in t.members)
+
 -- a record inside another one
 abbrev pub nested : {P : Type 0} → PlainTable P → Coded P
-nested t = record { kind = record_kind (members_in t); takes = takes_in (takes_of t); json = table_json t }
+nested t = record {
+  kind = record_kind (members_in t);
+  takes = takes_in (takes_of t);
+  json = table_json t;
+  shape = table_shape t;
+}
 
 -- ---- the member with a number
 
@@ -158,6 +167,10 @@ read_from (m ∷ ms) n = if n == m.entry.number then put_found m else read_from 
 abbrev pub takes_from : {P : Type 0} → List (JsonMember P) → ℕ → Data → Bool
 takes_from [] n = λ d. false
 takes_from (m ∷ ms) n = if n == m.entry.number then m.takes else takes_from ms n
+
+abbrev pub shape_from : {P : Type 0} → List (JsonMember P) → ℕ → Option Shape
+shape_from [] n = None
+shape_from (m ∷ ms) n = if n == m.entry.number then Some m.shape else shape_from ms n
 
 abbrev pub encoded_from : {P : Type 0} → List (JsonMember P) → ℕ → BytesForm → P → Option Data
 encoded_from [] n = λ form x. None
@@ -180,6 +193,10 @@ read_row t = read_from t.members
 abbrev pub takes_row : {P : Type 0} → PlainTable P → ℕ → Data → Bool
 takes_row t = takes_from t.members
 
+-- what that member is decoded from
+abbrev pub shape_row : {P : Type 0} → PlainTable P → ℕ → Option Shape
+shape_row t = shape_from t.members
+
 -- what that member is encoded as
 abbrev pub encoded_row : {P : Type 0} → PlainTable P → ℕ → BytesForm → P → Option Data
 encoded_row t = encoded_from t.members
@@ -191,13 +208,15 @@ RowIsBack t = BackFrom t.members
 -- ---- kinds of members, by number, name, how the value is coded, and where it is taken from and put
 
 -- always encoded
-abbrev always : {M P : Type 0} (n : ℕ) (name : List ℕ) (c : Coded M) (read : Member → Result M Fault)
+abbrev always : {M P : Type 0} (n : ℕ) (name : List ℕ) (c : Coded M) (accept : Data → Bool) (read : Member → Result M Fault)
     → ((x : M) (d : Data) → ReadsBack c.kind x d → read (under name (Some d)) ≡ Ok x) → (P → M) → (M → P → P)
     → JsonMember P
-always {M} n name c read back get set = record {
+always {M} n name c accept read back get set = record {
   Value = M;
   entry = record { number = n; name = name; other = None };
   takes = c.takes;
+  accepts = accept;
+  shape = c.shape;
   read = read;
   get = get;
   set = set;
@@ -207,13 +226,15 @@ always {M} n name c read back get set = record {
 }
 
 -- encoded if there is a value
-abbrev if_some : {M P : Type 0} (n : ℕ) (name : List ℕ) (c : Coded M) (read : Member → Result (Option M) Fault)
+abbrev if_some : {M P : Type 0} (n : ℕ) (name : List ℕ) (c : Coded M) (accept : Data → Bool) (read : Member → Result (Option M) Fault)
     → ((json : M → Data) (o : Option M) → ReadsBackIf c.kind json o → read (under name (option_map json o)) ≡ Ok o)
     → (P → Option M) → (Option M → P → P) → JsonMember P
-if_some {M} n name c read back get set = record {
+if_some {M} n name c accept read back get set = record {
   Value = Option M;
   entry = record { number = n; name = name; other = None };
   takes = c.takes;
+  accepts = accept;
+  shape = c.shape;
   read = read;
   get = get;
   set = set;
@@ -226,43 +247,47 @@ if_some {M} n name c read back get set = record {
 abbrev pub or_as : {P : Type 0} → List ℕ → JsonMember P → JsonMember P
 or_as other m = record m { entry = record { number = m.entry.number; name = m.entry.name; other = Some other } }
 
+-- a list of which the accepted elements are kept
+abbrev any_list : {M : Type 0} → Coded M → Coded (List M)
+any_list c = record (list_value c) { shape = accepted_shape c.shape }
+
 module _ {M P : Type 0} (n : ℕ) (name : List ℕ) (c : Coded M) where
   -- a required member
   abbrev pub required_as : (P → M) → (M → P → P) → JsonMember P
-  required_as = always n name c (required c.kind) (λ x d b. law.required_back b name)
+  required_as = always n name c (accepts c.kind) (required c.kind) (λ x d b. law.required_back b name)
 
   -- a required member, with the default if it is rejected
   abbrev pub required_tolerated_as : M → (P → M) → (M → P → P) → JsonMember P
   required_tolerated_as default =
-      always n name c (required_tolerated default c.kind) (λ x d b. law.required_tolerated_back b name default)
+      always n name c (λ d. true) (required_tolerated default c.kind) (λ x d b. law.required_tolerated_back b name default)
 
   -- a member with the default if it is absent
   abbrev pub default_as : M → (P → M) → (M → P → P) → JsonMember P
-  default_as default = always n name c (or_default default c.kind) (λ x d b. law.or_default_back b name default)
+  default_as default = always n name c (accepts c.kind) (or_default default c.kind) (λ x d b. law.or_default_back b name default)
 
   -- a member with the default if it is absent or rejected
   abbrev pub tolerated_as : M → (P → M) → (M → P → P) → JsonMember P
-  tolerated_as default = always n name c (tolerated default c.kind) (λ x d b. law.tolerated_back b name default)
+  tolerated_as default = always n name c (λ d. true) (tolerated default c.kind) (λ x d b. law.tolerated_back b name default)
 
   -- `None` if it is absent or null
   abbrev pub optional_as : (P → Option M) → (Option M → P → P) → JsonMember P
-  optional_as = if_some n name c (or_default None (optional c.kind)) (λ json. law.optional_back c.kind json name)
+  optional_as = if_some n name c (accepts (optional c.kind)) (or_default None (optional c.kind)) (λ json. law.optional_back c.kind json name)
 
   -- `None` if it is absent
   abbrev pub present_as : (P → Option M) → (Option M → P → P) → JsonMember P
-  present_as = if_some n name c (if_present c.kind) (λ json. law.present_back c.kind json name)
+  present_as = if_some n name c (accepts c.kind) (if_present c.kind) (λ json. law.present_back c.kind json name)
 
   -- `None` if it is absent, null or rejected
   abbrev pub tolerated_optional_as : (P → Option M) → (Option M → P → P) → JsonMember P
   tolerated_optional_as =
-      if_some n name c (tolerated None (optional c.kind)) (λ json. law.tolerated_optional_back c.kind json name)
+      if_some n name c (λ d. true) (tolerated None (optional c.kind)) (λ json. law.tolerated_optional_back c.kind json name)
 
   -- a required array, of which the accepted elements are kept
   abbrev pub required_list_as : (P → List M) → (List M → P → P) → JsonMember P
   required_list_as =
-      always n name (list_value c) (required (accepted c.kind)) (λ x d b. law.required_list_back c.kind x d b name)
+      always n name (any_list c) (accepts (accepted c.kind)) (required (accepted c.kind)) (λ x d b. law.required_list_back c.kind x d b name)
 
   -- an array of which the accepted elements are kept; `None` if it is absent or no array
   abbrev pub accepted_as : (P → Option (List M)) → (Option (List M) → P → P) → JsonMember P
   accepted_as =
-      if_some n name (list_value c) (accepted_list c.kind) (λ json. law.accepted_list_back c.kind json name)
+      if_some n name (any_list c) (λ d. true) (accepted_list c.kind) (λ json. law.accepted_list_back c.kind json name)

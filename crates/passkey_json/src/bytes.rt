@@ -1,4 +1,6 @@
 //! Byte strings, decoded from JSON values and encoded.
+ghost use Rattle.passkey_json.specs.Shape.{leaf};
+ghost use Rattle.passkey_json.specs.declared.wanted.WantedJson.TheVariants as want;
 ghost use Rattle.std.specs.Prelude.{◌≡◌, IfOk, OnOk};
 ghost use Rattle.passkey_json.specs.Kind.{bytes as byte_string, is_text_or_array};
 ghost use Rattle.passkey_json.specs.Written.{ReadsBack, bytes_json};
@@ -8,7 +10,9 @@ ghost use Rattle.serde_json.specs.View.{view};
 use crate::bytes_form::BytesForm;
 use crate::from_json::FromJson;
 use crate::json_refusal::JsonRefusal;
+use crate::look::{Form, Look, looked};
 use crate::to_json::ToJson;
+use crate::wanted::WantedJson;
 use crate::written::array;
 use passkey_bytes::encoding::base64url;
 use passkey_bytes::{Bytes, BytesFault, List};
@@ -20,6 +24,8 @@ impl FromJson for Bytes {
     ghost kind = { byte_string };
 
     ghost takes = { is_text_or_array };
+
+    ghost shape = { leaf want.Bytes };
 
     fn from_value(alloc: Global, value: &Value) -> Result<Bytes, JsonRefusal> {
         match value {
@@ -34,6 +40,10 @@ impl FromJson for Bytes {
             }
             _ => Err(JsonRefusal::Refused),
         }
+    }
+
+    fn look(alloc: Global, value: &Value) -> Result<Look, OutOfMemory> {
+        looked(Bytes::from_value(alloc, value), Form::Leaf(WantedJson::Bytes))
     }
 }
 

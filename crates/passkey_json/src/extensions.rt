@@ -67,7 +67,7 @@ impl PlainJsonRecord for AuthenticationExtensionsClientInputs {
         AuthenticationExtensionsClientInputs::empty()
     }
 
-    fn put(&mut self, number: u8, member: Member<'_>) -> Result<(), JsonFault> {
+    fn put(&mut self, number: u8, member: &mut Member<'_>) -> Result<(), JsonFault> {
         match number {
             1 => place(&mut self.cred_props, member.or_default(None)),
             2 => place(&mut self.prf, member.or_default(None)),
@@ -153,7 +153,7 @@ impl PlainJsonRecord for AuthenticationExtensionsPrfInputs {
         AuthenticationExtensionsPrfInputs::empty()
     }
 
-    fn put(&mut self, number: u8, member: Member<'_>) -> Result<(), JsonFault> {
+    fn put(&mut self, number: u8, member: &mut Member<'_>) -> Result<(), JsonFault> {
         match number {
             1 => place(&mut self.eval, member.or_default(None)),
             2 => place(&mut self.eval_by_credential, member.or_default(None)),
@@ -203,7 +203,7 @@ impl PlainJsonRecord for AuthenticationExtensionsClientOutputs {
         AuthenticationExtensionsClientOutputs::empty()
     }
 
-    fn put(&mut self, number: u8, member: Member<'_>) -> Result<(), JsonFault> {
+    fn put(&mut self, number: u8, member: &mut Member<'_>) -> Result<(), JsonFault> {
         match number {
             1 => place(&mut self.cred_props, member.or_default(None)),
             2 => place(&mut self.prf, member.or_default(None)),
@@ -239,7 +239,7 @@ impl PlainJsonRecord for CredentialPropertiesOutput {
         CredentialPropertiesOutput { discoverable: None }
     }
 
-    fn put(&mut self, number: u8, member: Member<'_>) -> Result<(), JsonFault> {
+    fn put(&mut self, number: u8, member: &mut Member<'_>) -> Result<(), JsonFault> {
         match number {
             1 => self.discoverable = member.or_default(None)?,
             _ => {}

@@ -1,12 +1,19 @@
 //! Values that are decoded from JSON values.
-ghost use Rattle.std.specs.Prelude.{◌≡◌, Bool, false, Option};
+ghost use Rattle.std.specs.Option.{option_and_then};
+ghost use Rattle.std.specs.Prelude.{◌≡◌, Bool, false, IfOk, Option};
 ghost use Rattle.passkey_json.specs.Kind.{Answers, algorithm, truth, text, whole, numeral, byte, word, optional, is_text};
+ghost use Rattle.passkey_json.specs.Look.{Looks, LooksAs, tested};
+ghost use Rattle.passkey_json.specs.Shape.{Shape, leaf, part_of, reached};
+ghost use Rattle.passkey_json.specs.declared.wanted.WantedJson.TheVariants as want;
 ghost use Rattle.serde_json.specs.Data.{Data};
 ghost use Rattle.serde_json.specs.View.{view};
 
 use crate::json_refusal::JsonRefusal;
+use crate::look::{Form, Look, looked};
+use crate::wanted::WantedJson;
 use passkey_bytes::Text;
 use passkey_iana::{Algorithm, EnumI64};
+use passkey_memory::OutOfMemory;
 use passkey_webauthn::whole_part;
 use serde_json::Value;
 use std::alloc::Global;
@@ -24,6 +31,29 @@ pub trait FromJson: Drop {
     /// takes memory (`takes`).
     fn from_value(alloc: Global, value: &Value) -> Result<Self, JsonRefusal>
         ensures { Answers kind takes (view value.now) result };
+
+    /// What it is decoded from, part by part.
+    ghost shape: { Shape };
+
+    /// Returns what the type is decoded from, and whether it accepts the JSON value. Returns
+    /// `OutOfMemory` if an allocation fails.
+    fn look(alloc: Global, value: &Value) -> Result<Look, OutOfMemory>
+        ensures { IfOk result (LooksAs (tested kind shape) (view value.now)) };
+
+    /// The same for a part of the type: the elements of a list and the members of a map, by any
+    /// number, or the row of a record with this number; and then for the part of that to which the
+    /// rest of the way leads. Nothing is promised for a way that leads nowhere, such as any for a
+    /// type without parts.
+    fn look_into(
+        _alloc: Global,
+        _number: u8,
+        _rest: &[u8],
+        _value: &Value,
+    ) -> Result<Look, OutOfMemory>
+        ensures { Looks (option_and_then (reached _rest.now) (part_of _number shape)) (view _value.now) result }
+    {
+        Err(OutOfMemory)
+    }
 }
 
 /// Returns the integer that the JSON value is, or the number in a text, truncated towards zero.
@@ -40,13 +70,21 @@ fn numeral(value: &Value) -> Option<i64>
 impl FromJson for bool {
     ghost kind = { truth };
 
+    ghost shape = { leaf want.Boolean };
+
     fn from_value(_alloc: Global, value: &Value) -> Result<bool, JsonRefusal> {
         value.as_bool().ok_or(JsonRefusal::Refused)
+    }
+
+    fn look(alloc: Global, value: &Value) -> Result<Look, OutOfMemory> {
+        looked(bool::from_value(alloc, value), Form::Leaf(WantedJson::Boolean))
     }
 }
 
 impl FromJson for Text {
     ghost kind = { text };
+
+    ghost shape = { leaf want.Text };
 
     ghost takes = { is_text };
 
@@ -56,10 +94,16 @@ impl FromJson for Text {
             _ => Err(JsonRefusal::Refused),
         }
     }
+
+    fn look(alloc: Global, value: &Value) -> Result<Look, OutOfMemory> {
+        looked(Text::from_value(alloc, value), Form::Leaf(WantedJson::Text))
+    }
 }
 
 impl FromJson for u8 {
     ghost kind = { byte };
+
+    ghost shape = { leaf want.Integer };
 
     fn from_value(_alloc: Global, value: &Value) -> Result<u8, JsonRefusal> {
         match value.as_i64() {
@@ -67,10 +111,16 @@ impl FromJson for u8 {
             None => Err(JsonRefusal::Refused),
         }
     }
+
+    fn look(alloc: Global, value: &Value) -> Result<Look, OutOfMemory> {
+        looked(u8::from_value(alloc, value), Form::Leaf(WantedJson::Integer))
+    }
 }
 
 impl FromJson for u32 {
     ghost kind = { word };
+
+    ghost shape = { leaf want.Word };
 
     #[tactic(auto, unfolding(crate::specs::Kind::word))]
     fn from_value(_alloc: Global, value: &Value) -> Result<u32, JsonRefusal> {
@@ -79,18 +129,30 @@ impl FromJson for u32 {
             None => Err(JsonRefusal::Refused),
         }
     }
+
+    fn look(alloc: Global, value: &Value) -> Result<Look, OutOfMemory> {
+        looked(u32::from_value(alloc, value), Form::Leaf(WantedJson::Word))
+    }
 }
 
 impl FromJson for i64 {
     ghost kind = { whole };
 
+    ghost shape = { leaf want.Integer };
+
     fn from_value(_alloc: Global, value: &Value) -> Result<i64, JsonRefusal> {
         value.as_i64().ok_or(JsonRefusal::Refused)
+    }
+
+    fn look(alloc: Global, value: &Value) -> Result<Look, OutOfMemory> {
+        looked(i64::from_value(alloc, value), Form::Leaf(WantedJson::Integer))
     }
 }
 
 impl FromJson for Algorithm {
     ghost kind = { algorithm };
+
+    ghost shape = { leaf want.Algorithm };
 
     #[tactic(auto, unfolding(crate::specs::Kind::algorithm))]
     fn from_value(_alloc: Global, value: &Value) -> Result<Algorithm, JsonRefusal> {
@@ -99,6 +161,10 @@ impl FromJson for Algorithm {
             None => Err(JsonRefusal::Refused),
         }
     }
+
+    fn look(alloc: Global, value: &Value) -> Result<Look, OutOfMemory> {
+        looked(Algorithm::from_value(alloc, value), Form::Leaf(WantedJson::Algorithm))
+    }
 }
 
 impl<T: FromJson> FromJson for Option<T> {
@@ -106,10 +172,26 @@ impl<T: FromJson> FromJson for Option<T> {
 
     ghost takes = { T.takes };
 
+    ghost shape = { T.shape };
+
     fn from_value(alloc: Global, value: &Value) -> Result<Option<T>, JsonRefusal> {
         match value {
             Value::Null => Ok(None),
             _ => Ok(Some(T::from_value(alloc, value)?)),
         }
+    }
+
+    fn look(alloc: Global, value: &Value) -> Result<Look, OutOfMemory> {
+        let look = T::look(alloc, value)?;
+        looked(<Option<T>>::from_value(alloc, value), look.form)
+    }
+
+    fn look_into(
+        alloc: Global,
+        number: u8,
+        rest: &[u8],
+        value: &Value,
+    ) -> Result<Look, OutOfMemory> {
+        T::look_into(alloc, number, rest, value)
     }
 }

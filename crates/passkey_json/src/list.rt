@@ -1,10 +1,14 @@
 //! Lists of values.
 ghost use Rattle.std.specs.Prelude.{◌≡◌};
+ghost use Rattle.passkey_json.specs.Coded.{accepted_shape, list_shape};
 ghost use Rattle.passkey_json.specs.Kind.{list, accepted, is_array};
 
 use crate::from_json::FromJson;
 use crate::json_refusal::JsonRefusal;
+use crate::look::{Form, Look, look_along, looked};
+use crate::tolerated::Tolerated;
 use passkey_bytes::List;
+use passkey_memory::OutOfMemory;
 use serde_json::Value;
 use std::alloc::Global;
 use std::marker::Model;
@@ -13,6 +17,8 @@ impl<T: FromJson> FromJson for List<T> {
     ghost kind = { list T.kind };
 
     ghost takes = { is_array };
+
+    ghost shape = { list_shape T.kind T.shape };
 
     fn from_value(alloc: Global, value: &Value) -> Result<List<T>, JsonRefusal> {
         let Value::Array(elements) = value else {
@@ -23,6 +29,19 @@ impl<T: FromJson> FromJson for List<T> {
             read.push(T::from_value(alloc, element)?)?;
         }
         Ok(List::from(read))
+    }
+
+    fn look(alloc: Global, value: &Value) -> Result<Look, OutOfMemory> {
+        looked(<List<T>>::from_value(alloc, value), Form::List)
+    }
+
+    fn look_into(
+        alloc: Global,
+        _number: u8,
+        rest: &[u8],
+        value: &Value,
+    ) -> Result<Look, OutOfMemory> {
+        look_along::<T>(alloc, rest, value)
     }
 }
 
@@ -53,6 +72,8 @@ impl<T: FromJson> FromJson for TolerantList<T> {
 
     ghost takes = { is_array };
 
+    ghost shape = { accepted_shape T.shape };
+
     fn from_value(alloc: Global, value: &Value) -> Result<TolerantList<T>, JsonRefusal> {
         let Value::Array(elements) = value else {
             return Err(JsonRefusal::Refused);
@@ -66,5 +87,18 @@ impl<T: FromJson> FromJson for TolerantList<T> {
             }
         }
         Ok(TolerantList(List::from(read)))
+    }
+
+    fn look(alloc: Global, value: &Value) -> Result<Look, OutOfMemory> {
+        looked(<TolerantList<T>>::from_value(alloc, value), Form::List)
+    }
+
+    fn look_into(
+        alloc: Global,
+        _number: u8,
+        rest: &[u8],
+        value: &Value,
+    ) -> Result<Look, OutOfMemory> {
+        look_along::<Tolerated<T>>(alloc, rest, value)
     }
 }

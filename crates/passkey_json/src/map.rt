@@ -1,4 +1,5 @@
 //! Maps from texts, decoded from JSON objects and encoded.
+ghost use Rattle.passkey_json.specs.Coded.{map_shape};
 ghost use Rattle.passkey_json.specs.Kind.{Answers, is_object};
 ghost use Rattle.passkey_json.specs.MapKind.{map_from_texts, map_json};
 ghost use Rattle.serde_json.specs.Data.{object};
@@ -7,6 +8,7 @@ ghost use Rattle.serde_json.specs.View.{members_view};
 use crate::bytes_form::BytesForm;
 use crate::from_json::FromJson;
 use crate::json_refusal::JsonRefusal;
+use crate::look::{Form, Look, look_along, looked};
 use crate::to_json::ToJson;
 use crate::written::ObjectWriter;
 use passkey_bytes::{Map, Text};
@@ -33,11 +35,26 @@ impl<T: FromJson> FromJson for Map<Text, T> {
 
     ghost takes = { is_object };
 
+    ghost shape = { map_shape T.kind T.shape };
+
     fn from_value(alloc: Global, value: &Value) -> Result<Map<Text, T>, JsonRefusal> {
         match value {
             Value::Object(members) => read_members(alloc, members),
             _ => Err(JsonRefusal::Refused),
         }
+    }
+
+    fn look(alloc: Global, value: &Value) -> Result<Look, OutOfMemory> {
+        looked(<Map<Text, T>>::from_value(alloc, value), Form::Map)
+    }
+
+    fn look_into(
+        alloc: Global,
+        _number: u8,
+        rest: &[u8],
+        value: &Value,
+    ) -> Result<Look, OutOfMemory> {
+        look_along::<T>(alloc, rest, value)
     }
 }
 

@@ -1,7 +1,8 @@
 //! Members of objects, and the ways to decode them.
-ghost use Rattle.std.specs.Prelude.{◌≡◌, Err, IsTrue, option_map};
+ghost use Rattle.std.specs.Prelude.{◌≡◌, Err, IsTrue, Some, option_map};
+ghost use Rattle.passkey_json.specs.Coded.{accepted_shape};
 ghost use Rattle.passkey_json.specs.Fault.{Gives};
-ghost use Rattle.passkey_json.specs.Held.{IsPlaced, IsUnlessRefused, found};
+ghost use Rattle.passkey_json.specs.Held.{HasLooked, IsPlaced, IsUnlessRefused, found};
 ghost use Rattle.passkey_json.specs.Kind.{is_array};
 ghost use Rattle.passkey_json.specs.Members.{MemberTakes, under, fault_of, decoded_or_fault, required, or_default, if_present, tolerated, required_tolerated, accepted_list};
 ghost use Rattle.serde_json.specs.View.{view};
@@ -11,7 +12,9 @@ use crate::from_json::FromJson;
 use crate::json_fault::JsonFault;
 use crate::json_refusal::JsonRefusal;
 use crate::list::TolerantList;
+use crate::look::Look;
 use passkey_bytes::List;
+use passkey_memory::OutOfMemory;
 use serde_json::Value;
 use std::alloc::Global;
 
@@ -64,25 +67,71 @@ fn unless_refused<T: Drop>(read: Result<T, JsonRefusal>, default: T) -> Result<T
 /// allocation fails, which can only happen for a value that takes memory to decode. If a value is
 /// rejected for which there is no default, the fault is `Float` if the value contains a float, and
 /// else `Refused`.
-#[derive(Clone, Copy)]
+#[derive(Drop)]
 pub struct Member<'a> {
     alloc: Global,
     name: &'static str,
     value: Option<&'a Value>,
+    // a way into the type that the member is decoded as, and what is found there
+    way: Option<&'a [u8]>,
+    look: Result<Look, OutOfMemory>,
 }
 
 impl<'a> Member<'a> {
     pub(crate) fn new(alloc: Global, name: &'static str, value: Option<&'a Value>) -> Member<'a>
         ensures { found result ≡ under name.now (option_map (λ v. view v.now) value.entry) }
     {
-        Member { alloc, name, value }
+        Member {
+            alloc,
+            name,
+            value,
+            way: None,
+            look: Err(OutOfMemory),
+        }
+    }
+
+    /// A member with this value and any name, into whose type the way leads.
+    pub(crate) fn looked_at(alloc: Global, way: &'a [u8], value: &'a Value) -> Member<'a>
+        ensures value { (found result).value ≡ Some (view value.now) }
+        ensures way { option_map (λ w. w.now) result.way ≡ Some way.now }
+    {
+        Member {
+            alloc,
+            name: "",
+            value: Some(value),
+            way: Some(way),
+            look: Err(OutOfMemory),
+        }
+    }
+
+    /// Returns what was found where the way leads.
+    pub(crate) fn seen(&self) -> Result<Look, OutOfMemory>
+        ensures { result ≡ self.now.look }
+    {
+        self.look
+    }
+
+    /// Looks at the type where the way leads, if there is a way.
+    fn look_at<T: FromJson>(&mut self)
+        ensures same { found self.new ≡ found self.old }
+        ensures looks { HasLooked T.shape self.old self.new }
+    {
+        let (Some(way), Some(value)) = (self.way, self.value) else {
+            return;
+        };
+        self.look = match way.split_first() {
+            None => T::look(self.alloc, value),
+            Some((number, rest)) => T::look_into(self.alloc, *number, rest, value),
+        };
     }
 
     /// Decodes a required member. Returns `Missing` if it is absent, and the fault of a rejected value.
     #[tactic(auto, unfolding(crate::specs::Members::required))]
-    pub fn required<T: FromJson>(self) -> Result<T, JsonFault>
-        ensures { Gives (MemberTakes T.takes (found self.entry)) (required T.kind (found self.entry)) result }
+    pub fn required<T: FromJson>(&mut self) -> Result<T, JsonFault>
+        ensures gives { Gives (MemberTakes T.takes (found self.old)) (required T.kind (found self.old)) result }
+        ensures looks { HasLooked T.shape self.old self.new }
     {
+        self.look_at::<T>();
         match self.value {
             Some(value) => decoded_or_fault(self.alloc, self.name, value),
             None => Err(JsonFault::Missing(self.name)),
@@ -91,10 +140,12 @@ impl<'a> Member<'a> {
 
     /// Decodes a member, or returns the default if it is absent, and the fault of a rejected value.
     #[tactic(auto, unfolding(crate::specs::Members::or_default))]
-    pub fn or_default<T: FromJson>(self, default: T) -> Result<T, JsonFault>
-        ensures { Gives (MemberTakes T.takes (found self.entry)) (or_default default T.kind (found self.entry))
+    pub fn or_default<T: FromJson>(&mut self, default: T) -> Result<T, JsonFault>
+        ensures gives { Gives (MemberTakes T.takes (found self.old)) (or_default default T.kind (found self.old))
             result }
+        ensures looks { HasLooked T.shape self.old self.new }
     {
+        self.look_at::<T>();
         match self.value {
             Some(value) => decoded_or_fault(self.alloc, self.name, value),
             None => Ok(default),
@@ -103,9 +154,11 @@ impl<'a> Member<'a> {
 
     /// Decodes a member, or returns `None` if it is absent, and the fault of a rejected value.
     #[tactic(auto, unfolding(crate::specs::Members::if_present))]
-    pub fn if_present<T: FromJson>(self) -> Result<Option<T>, JsonFault>
-        ensures { Gives (MemberTakes T.takes (found self.entry)) (if_present T.kind (found self.entry)) result }
+    pub fn if_present<T: FromJson>(&mut self) -> Result<Option<T>, JsonFault>
+        ensures gives { Gives (MemberTakes T.takes (found self.old)) (if_present T.kind (found self.old)) result }
+        ensures looks { HasLooked T.shape self.old self.new }
     {
+        self.look_at::<T>();
         match self.value {
             Some(value) => Ok(Some(decoded_or_fault(self.alloc, self.name, value)?)),
             None => Ok(None),
@@ -115,10 +168,12 @@ impl<'a> Member<'a> {
     /// Decodes a member, or returns the default if it is absent or rejected. Running out of memory
     /// is still an error, and the only one.
     #[tactic(auto, unfolding(crate::specs::Members::tolerated))]
-    pub fn tolerated<T: FromJson>(self, default: T) -> Result<T, JsonFault>
-        ensures { Gives (MemberTakes T.takes (found self.entry)) (tolerated default T.kind (found self.entry))
+    pub fn tolerated<T: FromJson>(&mut self, default: T) -> Result<T, JsonFault>
+        ensures gives { Gives (MemberTakes T.takes (found self.old)) (tolerated default T.kind (found self.old))
             result }
+        ensures looks { HasLooked T.shape self.old self.new }
     {
+        self.look_at::<T>();
         let Some(value) = self.value else {
             return Ok(default);
         };
@@ -128,9 +183,10 @@ impl<'a> Member<'a> {
     /// Decodes a required member, or returns the default if its value is rejected. Returns
     /// `Missing` if it is absent. Running out of memory is still an error; there is no other.
     #[tactic(auto, unfolding(crate::specs::Members::required_tolerated, crate::specs::Members::tolerated))]
-    pub fn required_tolerated<T: FromJson>(self, default: T) -> Result<T, JsonFault>
-        ensures { Gives (MemberTakes T.takes (found self.entry))
-            (required_tolerated default T.kind (found self.entry)) result }
+    pub fn required_tolerated<T: FromJson>(&mut self, default: T) -> Result<T, JsonFault>
+        ensures gives { Gives (MemberTakes T.takes (found self.old))
+            (required_tolerated default T.kind (found self.old)) result }
+        ensures looks { HasLooked T.shape self.old self.new }
     {
         if self.value.is_none() {
             return Err(JsonFault::Missing(self.name));
@@ -142,9 +198,11 @@ impl<'a> Member<'a> {
     /// member is absent or its value isn't an array. Running out of memory, which can only happen
     /// for an array, is still an error, and the only one.
     #[tactic(auto, unfolding(crate::specs::Members::accepted_list))]
-    pub fn accepted_list<T: FromJson>(self) -> Result<Option<List<T>>, JsonFault>
-        ensures { Gives (MemberTakes is_array (found self.entry)) (accepted_list T.kind (found self.entry)) result }
+    pub fn accepted_list<T: FromJson>(&mut self) -> Result<Option<List<T>>, JsonFault>
+        ensures gives { Gives (MemberTakes is_array (found self.old)) (accepted_list T.kind (found self.old)) result }
+        ensures looks { HasLooked (accepted_shape T.shape) self.old self.new }
     {
+        self.look_at::<TolerantList<T>>();
         let Some(value) = self.value else {
             return Ok(None);
         };

@@ -1,4 +1,6 @@
 //! Names of enumerations, decoded from JSON values and encoded.
+ghost use Rattle.passkey_json.specs.Shape.{leaf};
+ghost use Rattle.passkey_json.specs.declared.wanted.WantedJson.TheVariants as want;
 ghost use Rattle.std.specs.Prelude.{◌≡◌, false, IfOk, OnOk};
 ghost use Rattle.passkey_json.specs.Coded.{credential_type_value, transport_value};
 ghost use Rattle.passkey_json.specs.Kind.{Answers, one_named};
@@ -10,7 +12,9 @@ ghost use Rattle.serde_json.specs.View.{view};
 use crate::bytes_form::BytesForm;
 use crate::from_json::FromJson;
 use crate::json_refusal::JsonRefusal;
+use crate::look::{Form, Look, looked};
 use crate::to_json::ToJson;
+use crate::wanted::WantedJson;
 use passkey_memory::OutOfMemory;
 use passkey_webauthn::{AuthenticatorTransport, EnumNames, PublicKeyCredentialType};
 use serde_json::Value;
@@ -40,8 +44,14 @@ pub fn written_name<T: EnumNames>(alloc: Global, value: T) -> Result<Value, OutO
 impl FromJson for PublicKeyCredentialType {
     ghost kind = { credential_type_value.kind };
 
+    ghost shape = { leaf want.Name };
+
     fn from_value(_alloc: Global, value: &Value) -> Result<PublicKeyCredentialType, JsonRefusal> {
         read_name(value)
+    }
+
+    fn look(alloc: Global, value: &Value) -> Result<Look, OutOfMemory> {
+        looked(PublicKeyCredentialType::from_value(alloc, value), Form::Leaf(WantedJson::Name))
     }
 }
 
@@ -56,8 +66,14 @@ impl ToJson for PublicKeyCredentialType {
 impl FromJson for AuthenticatorTransport {
     ghost kind = { transport_value.kind };
 
+    ghost shape = { leaf want.Name };
+
     fn from_value(_alloc: Global, value: &Value) -> Result<AuthenticatorTransport, JsonRefusal> {
         read_name(value)
+    }
+
+    fn look(alloc: Global, value: &Value) -> Result<Look, OutOfMemory> {
+        looked(AuthenticatorTransport::from_value(alloc, value), Form::Leaf(WantedJson::Name))
     }
 }
 

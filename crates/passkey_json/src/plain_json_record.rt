@@ -1,9 +1,10 @@
 //! Records whose members are one table, by which they are decoded and encoded.
 ghost use Rattle.std.specs.Prelude.{◌≡◌, false, IfOk, IfSome, IsTrue, OnOk, map, option_map};
 ghost use Rattle.passkey_json.specs.Fault.{Gives};
-ghost use Rattle.passkey_json.specs.Held.{GivesAs, found, names_of};
+ghost use Rattle.passkey_json.specs.Held.{GivesAs, HasLooked, found, names_of};
+ghost use Rattle.passkey_json.specs.Look.{entry_of};
 ghost use Rattle.passkey_json.specs.Members.{MemberTakes, record_kind, takes_in};
-ghost use Rattle.passkey_json.specs.Table.{AreBack, PlainTable, RowIsBack, encoded_row, entries, entry_of, looked, members_in, read_row, rows_of, table_json, takes_of, takes_row};
+ghost use Rattle.passkey_json.specs.Table.{AreBack, PlainTable, RowIsBack, encoded_row, entries, looked, members_in, read_row, rows_of, shape_row, table_json, table_shape, takes_of, takes_row};
 ghost use Rattle.passkey_json.specs.Written.{put_rows, so_far};
 ghost use Rattle.serde_json.specs.View.{view};
 ghost use Rattle.serde_json.specs.Written.{has_float};
@@ -14,6 +15,7 @@ use crate::json_encoder::{EncodeResult, JsonEncoder};
 use crate::json_fault::JsonFault;
 use crate::json_record::{JsonRecord, read_nested};
 use crate::json_refusal::JsonRefusal;
+use crate::look::{Form, Look, look_at_row};
 use crate::member::Member;
 use crate::object::Object;
 use crate::record_to_json::RecordToJson;
@@ -42,9 +44,12 @@ pub trait PlainJsonRecord: Drop {
     /// Decodes the member of the row with this number and puts it into the record, or returns its
     /// fault. Returns `OutOfMemory` if an allocation fails, which can only happen if the member is
     /// present and its value takes memory to decode. Puts nothing if no row has the number.
-    fn put(&mut self, number: u8, member: Member<'_>) -> Result<(), JsonFault>
-        ensures { GivesAs (MemberTakes (takes_row table number) (found member.entry)) (λ _. self.new)
-            (read_row table number (found member.entry) self.old) result };
+    fn put(&mut self, number: u8, member: &mut Member<'_>) -> Result<(), JsonFault>
+        ensures gives { GivesAs (MemberTakes (takes_row table number) (found member.old)) (λ _. self.new)
+            (read_row table number (found member.old) self.old) result }
+
+        // The type that it is decoded as was looked at, if there is a way into it.
+        ensures looks { IfSome (shape_row table number) (λ s. HasLooked s member.old member.new) };
 
     /// Encodes the member of the row with this number. Returns `None` if it is absent, or if no row
     /// has the number, and `OutOfMemory` if an allocation fails.
@@ -89,7 +94,8 @@ fn read_members<R: PlainJsonRecord>(object: &Object<'_>) -> Result<R, JsonFault>
 {
     let mut read = R::blank(object.allocator());
     for row in R::rows() {
-        read.put(row.number(), row.find(object)?)?;
+        let mut member = row.find(object)?;
+        read.put(row.number(), &mut member)?;
     }
     Ok(read)
 }
@@ -128,8 +134,31 @@ impl<R: PlainJsonRecord> FromJson for R {
 
     ghost takes = { takes_in (takes_of R.table) };
 
+    ghost shape = { table_shape R.table };
+
     fn from_value(alloc: Global, value: &Value) -> Result<R, JsonRefusal> {
         read_nested(alloc, value)
+    }
+
+    fn look(alloc: Global, value: &Value) -> Result<Look, OutOfMemory> {
+        let fault = match R::from_json(alloc, value) {
+            Ok(_) => None,
+            Err(JsonFault::OutOfMemory) => return Err(OutOfMemory),
+            Err(fault) => Some(fault),
+        };
+        Ok(Look {
+            is_accepted: fault.is_none(),
+            form: Form::Record(fault, R::rows()),
+        })
+    }
+
+    fn look_into(
+        alloc: Global,
+        number: u8,
+        rest: &[u8],
+        value: &Value,
+    ) -> Result<Look, OutOfMemory> {
+        look_at_row::<R>(alloc, number, rest, value)
     }
 }
 

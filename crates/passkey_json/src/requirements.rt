@@ -1,12 +1,16 @@
 //! What a relying party may require of an authenticator, decoded from JSON values and encoded.
+ghost use Rattle.passkey_json.specs.Shape.{leaf};
+ghost use Rattle.passkey_json.specs.declared.wanted.WantedJson.TheVariants as want;
 ghost use Rattle.std.specs.Prelude.{Some};
 ghost use Rattle.passkey_json.specs.Requirements.{attachment_name, attachment_own, attachment_value, attachments, resident_key_name, resident_key_own, resident_key_value, resident_keys, user_verification_name, user_verification_own, user_verification_value, user_verifications};
 
 use crate::bytes_form::BytesForm;
 use crate::from_json::FromJson;
 use crate::json_refusal::JsonRefusal;
+use crate::look::{Form, Look, looked};
 use crate::names::{read_name, written_name};
 use crate::to_json::ToJson;
+use crate::wanted::WantedJson;
 use passkey_memory::OutOfMemory;
 use passkey_webauthn::EnumNames;
 use serde_json::Value;
@@ -47,8 +51,14 @@ impl fmt::Display for AuthenticatorAttachment {
 impl FromJson for AuthenticatorAttachment {
     ghost kind = { attachment_value.kind };
 
+    ghost shape = { leaf want.Name };
+
     fn from_value(_alloc: Global, value: &Value) -> Result<AuthenticatorAttachment, JsonRefusal> {
         read_name(value)
+    }
+
+    fn look(alloc: Global, value: &Value) -> Result<Look, OutOfMemory> {
+        looked(AuthenticatorAttachment::from_value(alloc, value), Form::Leaf(WantedJson::Name))
     }
 }
 
@@ -98,8 +108,14 @@ impl fmt::Display for ResidentKeyRequirement {
 impl FromJson for ResidentKeyRequirement {
     ghost kind = { resident_key_value.kind };
 
+    ghost shape = { leaf want.Name };
+
     fn from_value(_alloc: Global, value: &Value) -> Result<ResidentKeyRequirement, JsonRefusal> {
         read_name(value)
+    }
+
+    fn look(alloc: Global, value: &Value) -> Result<Look, OutOfMemory> {
+        looked(ResidentKeyRequirement::from_value(alloc, value), Form::Leaf(WantedJson::Name))
     }
 }
 
@@ -148,11 +164,17 @@ impl fmt::Display for UserVerificationRequirement {
 impl FromJson for UserVerificationRequirement {
     ghost kind = { user_verification_value.kind };
 
+    ghost shape = { leaf want.Name };
+
     fn from_value(
         _alloc: Global,
         value: &Value,
     ) -> Result<UserVerificationRequirement, JsonRefusal> {
         read_name(value)
+    }
+
+    fn look(alloc: Global, value: &Value) -> Result<Look, OutOfMemory> {
+        looked(UserVerificationRequirement::from_value(alloc, value), Form::Leaf(WantedJson::Name))
     }
 }
 

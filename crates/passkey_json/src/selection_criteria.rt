@@ -62,7 +62,7 @@ impl PlainJsonRecord for AuthenticatorSelectionCriteria {
         AuthenticatorSelectionCriteria::default()
     }
 
-    fn put(&mut self, number: u8, member: Member<'_>) -> Result<(), JsonFault> {
+    fn put(&mut self, number: u8, member: &mut Member<'_>) -> Result<(), JsonFault> {
         match number {
             1 => place(&mut self.authenticator_attachment, member.tolerated(None)),
             2 => place(&mut self.resident_key, member.tolerated(None)),

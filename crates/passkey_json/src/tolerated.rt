@@ -3,6 +3,8 @@ ghost use Rattle.passkey_json.specs.Kind.{tolerated};
 
 use crate::from_json::FromJson;
 use crate::json_refusal::JsonRefusal;
+use crate::look::Look;
+use passkey_memory::OutOfMemory;
 use serde_json::Value;
 use std::alloc::Global;
 use std::marker::Model;
@@ -25,11 +27,30 @@ impl<T: FromJson> FromJson for Tolerated<T> {
 
     ghost takes = { T.takes };
 
+    ghost shape = { T.shape };
+
     fn from_value(alloc: Global, value: &Value) -> Result<Tolerated<T>, JsonRefusal> {
         match T::from_value(alloc, value) {
             Ok(read) => Ok(Tolerated(Some(read))),
             Err(JsonRefusal::Refused) => Ok(Tolerated(None)),
             Err(JsonRefusal::OutOfMemory) => Err(JsonRefusal::OutOfMemory),
         }
+    }
+
+    fn look(alloc: Global, value: &Value) -> Result<Look, OutOfMemory> {
+        let look = T::look(alloc, value)?;
+        Ok(Look {
+            is_accepted: true,
+            form: look.form,
+        })
+    }
+
+    fn look_into(
+        alloc: Global,
+        number: u8,
+        rest: &[u8],
+        value: &Value,
+    ) -> Result<Look, OutOfMemory> {
+        T::look_into(alloc, number, rest, value)
     }
 }

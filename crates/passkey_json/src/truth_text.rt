@@ -1,4 +1,6 @@
 //! Booleans that may be encoded as texts.
+ghost use Rattle.passkey_json.specs.Shape.{leaf};
+ghost use Rattle.passkey_json.specs.declared.wanted.WantedJson.TheVariants as want;
 ghost use Rattle.std.specs.Prelude.{◌≡◌, false};
 ghost use Rattle.passkey_json.specs.Kind.{truth_named, truth_text};
 ghost use Rattle.serde_json.specs.Data.{boolean};
@@ -6,7 +8,9 @@ ghost use Rattle.serde_json.specs.Data.{boolean};
 use crate::bytes_form::BytesForm;
 use crate::from_json::FromJson;
 use crate::json_refusal::JsonRefusal;
+use crate::look::{Form, Look, looked};
 use crate::to_json::ToJson;
+use crate::wanted::WantedJson;
 use passkey_memory::OutOfMemory;
 use serde_json::Value;
 use std::alloc::Global;
@@ -46,6 +50,8 @@ fn truth_named(name: &str) -> Option<bool>
 impl FromJson for TruthText {
     ghost kind = { truth_text };
 
+    ghost shape = { leaf want.BooleanText };
+
     fn from_value(_alloc: Global, value: &Value) -> Result<TruthText, JsonRefusal> {
         let truth = match value {
             Value::Bool(truth) => Some(*truth),
@@ -56,6 +62,10 @@ impl FromJson for TruthText {
             Some(truth) => Ok(TruthText(truth)),
             None => Err(JsonRefusal::Refused),
         }
+    }
+
+    fn look(alloc: Global, value: &Value) -> Result<Look, OutOfMemory> {
+        looked(TruthText::from_value(alloc, value), Form::Leaf(WantedJson::BooleanText))
     }
 }
 

@@ -34,7 +34,7 @@ impl PlainJsonRecord for PublicKeyCredentialDescriptor {
         }
     }
 
-    fn put(&mut self, number: u8, member: Member<'_>) -> Result<(), JsonFault> {
+    fn put(&mut self, number: u8, member: &mut Member<'_>) -> Result<(), JsonFault> {
         match number {
             1 => place(
                 &mut self.ty,
@@ -70,7 +70,7 @@ impl PlainJsonRecord for PublicKeyCredentialParameters {
         }
     }
 
-    fn put(&mut self, number: u8, member: Member<'_>) -> Result<(), JsonFault> {
+    fn put(&mut self, number: u8, member: &mut Member<'_>) -> Result<(), JsonFault> {
         match number {
             1 => place(
                 &mut self.ty,
@@ -104,7 +104,7 @@ impl PlainJsonRecord for PublicKeyCredentialRpEntity {
         }
     }
 
-    fn put(&mut self, number: u8, member: Member<'_>) -> Result<(), JsonFault> {
+    fn put(&mut self, number: u8, member: &mut Member<'_>) -> Result<(), JsonFault> {
         match number {
             1 => place(&mut self.id, member.or_default(None)),
             2 => place(&mut self.name, member.required()),
@@ -140,7 +140,7 @@ impl PlainJsonRecord for PublicKeyCredentialUserEntity {
         }
     }
 
-    fn put(&mut self, number: u8, member: Member<'_>) -> Result<(), JsonFault> {
+    fn put(&mut self, number: u8, member: &mut Member<'_>) -> Result<(), JsonFault> {
         match number {
             1 => place(&mut self.id, member.required()),
             2 => place(&mut self.display_name, member.required()),
@@ -173,7 +173,7 @@ impl PlainJsonRecord for AuthenticationExtensionsPrfValues {
         }
     }
 
-    fn put(&mut self, number: u8, member: Member<'_>) -> Result<(), JsonFault> {
+    fn put(&mut self, number: u8, member: &mut Member<'_>) -> Result<(), JsonFault> {
         match number {
             1 => place(&mut self.first, member.required()),
             2 => place(&mut self.second, member.or_default(None)),
@@ -204,7 +204,7 @@ impl PlainJsonRecord for AuthenticationExtensionsPrfOutputs {
         }
     }
 
-    fn put(&mut self, number: u8, member: Member<'_>) -> Result<(), JsonFault> {
+    fn put(&mut self, number: u8, member: &mut Member<'_>) -> Result<(), JsonFault> {
         match number {
             1 => place(&mut self.enabled, member.or_default(None)),
             2 => place(&mut self.results, member.or_default(None)),
