@@ -6,3 +6,4 @@ pub mod Faults
 pub mod Elements
 pub mod MapsBack
 pub mod Tables
+pub mod Looks

@@ -1,12 +1,12 @@
 -- How values are coded as JSON values: decoded, and encoded.
 use denote.Enum.Declared.{Declared}
-use Rattle.std.specs.Prelude.{ℕ, ℤ, Bool, false, true, is_some, List}
+use Rattle.std.specs.Prelude.{ℕ, ℤ, Bool, false, List}
 use Rattle.passkey_bytes.specs.Map.{ByteMap}
 use Rattle.passkey_iana.specs.declared.algorithm.Algorithm.{Algorithm}
 use Rattle.passkey_json.specs.Kind.{Kind, algorithm, bytes, is_array, is_object, is_text, is_text_or_array, list, one_named, text, truth, truth_text, whole, word}
 use Rattle.passkey_json.specs.MapKind.{map_from_texts, map_json}
+use Rattle.passkey_json.specs.Along.{Strict, accepts, leaf_strict, list_shape, list_strict, map_shape, map_strict}
 use Rattle.passkey_json.specs.Shape.{Shape, leaf}
-use Rattle.passkey_json.specs.Shape as shape
 use Rattle.passkey_json.specs.declared.wanted.WantedJson.{WantedJson}
 use Rattle.passkey_json.specs.declared.wanted.WantedJson.TheVariants as want
 use Rattle.passkey_json.specs.Written.{algorithm_json, bytes_json, list_json, natural_json, whole_json}
@@ -21,30 +21,23 @@ use Rattle.passkey_webauthn.specs.declared.transport.AuthenticatorTransport.{Aut
 use Rattle.serde_json.specs.Data.{Data, boolean, string}
 
 -- how a value is decoded, which JSON values may take memory to decode, how it is encoded, and what it is decoded from,
--- part by part
+-- part by part, by which is found what is to blame
 pub record Coded (M : Type 0) : Type 0 where
   pub kind : Kind M
   pub takes : Data → Bool
   pub json : BytesForm → M → Data
   pub shape : Shape
-
--- whether the kind accepts a JSON value
-abbrev pub accepts : {A : Type 0} → Kind A → Data → Bool
-accepts kind d = is_some (kind d)
-
--- an array of values that are all accepted; an array of any values; and an object of accepted values
-abbrev pub list_shape : {A : Type 0} → Kind A → Shape → Shape
-list_shape kind s = shape.list (accepts kind) s
-
-abbrev pub accepted_shape : Shape → Shape
-accepted_shape s = shape.list (λ d. true) s
-
-abbrev pub map_shape : {A : Type 0} → Kind A → Shape → Shape
-map_shape kind s = shape.map (accepts kind) s
+  pub strict : Strict (accepts kind) shape
 
 -- a value that takes no memory to decode, and is encoded without bytes
 abbrev small_value : {M : Type 0} → WantedJson → Kind M → (M → Data) → Coded M
-small_value w kind json = record { kind = kind; takes = λ d. false; json = λ form x. json x; shape = leaf w }
+small_value w kind json = record {
+  kind = kind;
+  takes = λ d. false;
+  json = λ form x. json x;
+  shape = leaf w;
+  strict = leaf_strict (accepts kind) w;
+}
 
 abbrev pub truth_value : Coded Bool
 truth_value = small_value want.Boolean truth boolean
@@ -72,10 +65,22 @@ abbrev pub transport_value : Coded AuthenticatorTransport
 transport_value = named_value transport transports
 
 abbrev pub text_value : Coded (List ℕ)
-text_value = record { kind = text; takes = is_text; json = λ form s. string s; shape = leaf want.Text }
+text_value = record {
+  kind = text;
+  takes = is_text;
+  json = λ form s. string s;
+  shape = leaf want.Text;
+  strict = leaf_strict (accepts text) want.Text;
+}
 
 abbrev pub bytes_value : Coded (List ℕ)
-bytes_value = record { kind = bytes; takes = is_text_or_array; json = bytes_json; shape = leaf want.Bytes }
+bytes_value = record {
+  kind = bytes;
+  takes = is_text_or_array;
+  json = bytes_json;
+  shape = leaf want.Bytes;
+  strict = leaf_strict (accepts bytes) want.Bytes;
+}
 
 abbrev pub list_value : {M : Type 0} → Coded M → Coded (List M)
 list_value c = record {
@@ -83,6 +88,7 @@ list_value c = record {
   takes = is_array;
   json = λ form. list_json (c.json form);
   shape = list_shape c.kind c.shape;
+  strict = list_strict c.kind c.shape c.strict;
 }
 
 abbrev pub map_value : {M : Type 0} → Coded M → Coded (ByteMap M)
@@ -91,4 +97,5 @@ map_value c = record {
   takes = is_object;
   json = λ form. map_json (c.json form);
   shape = map_shape c.kind c.shape;
+  strict = map_strict c.kind c.shape c.strict;
 }

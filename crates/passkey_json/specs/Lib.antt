@@ -9,7 +9,10 @@ pub mod Written
 pub mod JsonText
 pub mod MapKind
 pub mod MemberLaws
+pub mod Along
 pub mod Coded
+pub mod Record
+pub mod RecordAlong
 pub mod Table
 pub mod WebAuthn
 pub mod Extensions

@@ -66,3 +66,9 @@ abbrev pub AcceptedIf : {A : Type 0} → Result A JsonRefusal → Bool → Type 
 AcceptedIf (Ok x) b = b ≡ true
 AcceptedIf (Err Refused) b = b ≡ false
 AcceptedIf (Err OutOfMemory) b = ⊥
+
+-- whether a member was decoded
+abbrev pub IsPut : {A : Type 0} → Result A JsonFault → Bool → Type 0
+IsPut (Ok x) b = b ≡ true
+IsPut (Err json_fault.OutOfMemory) b = ⊥
+IsPut (Err _) b = b ≡ false

@@ -1,10 +1,15 @@
--- Each way to decode a member gives the value that was encoded.
+-- Each way to decode a member gives the value that was encoded, and its faults are those of the member.
 use Rattle.std.specs.Option.{option_and_then}
-use Rattle.std.specs.Prelude.{◌≡◌, ℕ, List, ◌∷◌, Option, Some, None, option_map, Ok, refl}
+use Rattle.std.specs.Prelude.{◌≡◌, ℕ, Bool, true, false, cond, List, ◌∷◌, Option, Some, None, is_some, option_map, Result, Ok, Err, is_ok, refl}
+use Rattle.std.specs.Option.{ok_or}
+use Rattle.std.proofs.Common.{sym, ap, ◌∙◌}
+use Rattle.passkey_json.specs.Along.{accepts}
+use Rattle.passkey_json.specs.Fault.{Fault, missing, refused, float, fault_name}
 use Rattle.passkey_json.specs.Kind.{Kind, optional, each, list, accepted, accepted_of, kept}
-use Rattle.passkey_json.specs.Members.{under, required, required_tolerated, or_default, if_present, tolerated, accepted_list}
+use Rattle.passkey_json.specs.Members.{Member, under, fault_of, required, required_tolerated, or_default, if_present, tolerated, accepted_list}
 use Rattle.passkey_json.specs.Written.{ReadsBack, ReadsBackIf}
 use Rattle.serde_json.specs.Data.{Data, null, boolean, number, string, array, object, Items, no_items, item}
+use Rattle.serde_json.specs.Written.{has_float}
 
 module _ {A : Type 0} {kind : Kind A} {x : A} {d : Data} (back : ReadsBack kind x d) (name : List ℕ) where
   pub required_back : required kind (under name (Some d)) ≡ Ok x
@@ -76,3 +81,77 @@ pub accepted_list_back : {A : Type 0} (kind : Kind A) (json : List A → Data) (
 unfolding accepted_list
 accepted_list_back kind json name None back = refl
 accepted_list_back kind json name (Some xs) back = rw (accepted_back kind (json xs) xs back.there.plain) refl
+
+-- ---- faults
+
+-- The member's value is accepted exactly if the test accepts it, whatever the member's name is; and each fault names the
+-- member.
+pub record Judges {A : Type 0} (read : Member → Result A Fault) (test : Data → Bool) : Type 0 where
+  pub says : (name : List ℕ) (d : Data) → is_ok (read (under name (Some d))) ≡ test d
+  pub names : (name : List ℕ) (o : Option Data) (f : Fault) → read (under name o) ≡ Err f → fault_name f ≡ Some name
+
+named_fault : (name : List ℕ) (d : Data) → fault_name (fault_of name d) ≡ Some name
+named_fault name d = by_float (has_float d) where
+  by_float : (b : Bool) → fault_name (cond b (float name) (refused name)) ≡ Some name
+  by_float true = refl
+  by_float false = refl
+
+judged_names : {A : Type 0} (o : Option A) (name : List ℕ) (d : Data) (f : Fault) → ok_or o (fault_of name d) ≡ Err f
+    → fault_name f ≡ Some name
+judged_names (Some x) name d f e = absurd cc
+judged_names None name d f e = let is : fault_of name d ≡ f = cc in ap fault_name (sym is) ∙ named_fault name d
+
+judged_ok : {A : Type 0} (o : Option A) (f : Fault) → is_ok (ok_or o f) ≡ is_some o
+judged_ok (Some x) f = refl
+judged_ok None f = refl
+
+missing_name : (A : Type 0) (name : List ℕ) (f : Fault) (r : Result A Fault) → r ≡ Err (missing name) → r ≡ Err f
+    → fault_name f ≡ Some name
+missing_name A name f r e g = let is : missing name ≡ f = cc in ap fault_name (sym is)
+
+mapped : {A : Type 0} (o : Option A) → is_some (option_map (λ x. Some x) o) ≡ is_some o
+mapped (Some x) = refl
+mapped None = refl
+
+module _ {A : Type 0} (kind : Kind A) where
+  pub required_judges : Judges (required kind) (accepts kind)
+  unfolding required
+  required_judges = record { says = λ name d. judged_ok (kind d) (fault_of name d); names = names } where
+    names : (name : List ℕ) (o : Option Data) (f : Fault) → required kind (under name o) ≡ Err f → fault_name f ≡ Some name
+    names name (Some d) f e = judged_names (kind d) name d f e
+    names name None f e = missing_name A name f (Err (missing name)) refl e
+
+  pub or_default_judges : (default : A) → Judges (or_default default kind) (accepts kind)
+  unfolding or_default
+  or_default_judges default = record { says = λ name d. judged_ok (kind d) (fault_of name d); names = names } where
+    names : (name : List ℕ) (o : Option Data) (f : Fault) → or_default default kind (under name o) ≡ Err f
+        → fault_name f ≡ Some name
+    names name (Some d) f e = judged_names (kind d) name d f e
+    names name None f e = absurd cc
+
+  pub present_judges : Judges (if_present kind) (accepts kind)
+  unfolding if_present
+  present_judges = record {
+    says = λ name d. judged_ok (option_map (λ x. Some x) (kind d)) (fault_of name d) ∙ mapped (kind d);
+    names = names;
+  } where
+    names : (name : List ℕ) (o : Option Data) (f : Fault) → if_present kind (under name o) ≡ Err f
+        → fault_name f ≡ Some name
+    names name (Some d) f e = judged_names (option_map (λ x. Some x) (kind d)) name d f e
+    names name None f e = absurd cc
+
+  pub tolerated_judges : (default : A) → Judges (tolerated default kind) (λ d. true)
+  unfolding tolerated
+  tolerated_judges default = record { says = λ name d. refl; names = λ name o f e. absurd cc }
+
+  pub accepted_list_judges : Judges (accepted_list kind) (λ d. true)
+  unfolding accepted_list
+  accepted_list_judges = record { says = λ name d. refl; names = λ name o f e. absurd cc }
+
+  pub required_tolerated_judges : (default : A) → Judges (required_tolerated default kind) (λ d. true)
+  unfolding required_tolerated
+  required_tolerated_judges default = record { says = λ name d. refl; names = names } where
+    names : (name : List ℕ) (o : Option Data) (f : Fault) → required_tolerated default kind (under name o) ≡ Err f
+        → fault_name f ≡ Some name
+    names name (Some d) f e = absurd cc
+    names name None f e = missing_name A name f (Err (missing name)) refl e

@@ -1,6 +1,6 @@
 //! Lists of values.
 ghost use Rattle.std.specs.Prelude.{◌≡◌};
-ghost use Rattle.passkey_json.specs.Coded.{accepted_shape, list_shape};
+ghost use Rattle.passkey_json.specs.Along.{accepted_shape, list_shape};
 ghost use Rattle.passkey_json.specs.Kind.{list, accepted, is_array};
 
 use crate::from_json::FromJson;

@@ -1,10 +1,9 @@
 //! Looking at a type: what it is decoded from, part by part, and which JSON values it accepts.
 ghost use Rattle.std.specs.Prelude.{◌≡◌, IfOk};
 ghost use Rattle.std.specs.Option.{option_and_then};
-ghost use Rattle.passkey_json.specs.Look.{AcceptedIf, Looks, tested};
-ghost use Rattle.passkey_json.specs.Shape.{reached};
+ghost use Rattle.passkey_json.specs.Look.{AcceptedIf, IsPut, Looks, tested};
+ghost use Rattle.passkey_json.specs.Shape.{reached, row_in};
 ghost use Rattle.passkey_json.specs.Table.{rows_in};
-ghost use Rattle.passkey_json.specs.Shape.{row_in};
 ghost use Rattle.serde_json.specs.View.{view};
 
 use crate::from_json::FromJson;
@@ -67,6 +66,18 @@ pub fn look_along<T: FromJson>(
     }
 }
 
+/// Returns whether a member was decoded, and the form. Returns `OutOfMemory` if an allocation failed.
+fn put_looked<T: Drop>(put: Result<T, JsonFault>, form: Form) -> Result<Look, OutOfMemory>
+    ensures { IfOk result (λ l. IsPut put l.is_accepted × (l.form ≡ form)) }
+{
+    let is_accepted = match put {
+        Ok(_) => true,
+        Err(JsonFault::OutOfMemory) => return Err(OutOfMemory),
+        Err(_) => false,
+    };
+    Ok(Look { is_accepted, form })
+}
+
 /// Looks at the type of the row with this number, and the rest of the way into it.
 pub(crate) fn look_at_row<R: PlainJsonRecord>(
     alloc: Global,
@@ -81,7 +92,7 @@ pub(crate) fn look_at_row<R: PlainJsonRecord>(
     let mut member = Member::looked_at(alloc, way, value);
     let put = record.put(number, &mut member);
     match way.split_first() {
-        None => looked(put.map_err(JsonRefusal::from), member.seen()?.form),
+        None => put_looked(put, member.seen()?.form),
         Some(_) => member.seen(),
     }
 }

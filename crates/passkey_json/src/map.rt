@@ -1,5 +1,5 @@
 //! Maps from texts, decoded from JSON objects and encoded.
-ghost use Rattle.passkey_json.specs.Coded.{map_shape};
+ghost use Rattle.passkey_json.specs.Along.{map_shape};
 ghost use Rattle.passkey_json.specs.Kind.{Answers, is_object};
 ghost use Rattle.passkey_json.specs.MapKind.{map_from_texts, map_json};
 ghost use Rattle.serde_json.specs.Data.{object};

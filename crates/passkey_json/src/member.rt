@@ -1,6 +1,6 @@
 //! Members of objects, and the ways to decode them.
 ghost use Rattle.std.specs.Prelude.{◌≡◌, Err, IsTrue, Some, option_map};
-ghost use Rattle.passkey_json.specs.Coded.{accepted_shape};
+ghost use Rattle.passkey_json.specs.Along.{accepted_shape};
 ghost use Rattle.passkey_json.specs.Fault.{Gives};
 ghost use Rattle.passkey_json.specs.Held.{HasLooked, IsPlaced, IsUnlessRefused, found};
 ghost use Rattle.passkey_json.specs.Kind.{is_array};

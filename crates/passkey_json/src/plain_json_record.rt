@@ -1,9 +1,9 @@
 //! Records whose members are one table, by which they are decoded and encoded.
 ghost use Rattle.std.specs.Prelude.{◌≡◌, false, IfOk, IfSome, IsTrue, OnOk, map, option_map};
-ghost use Rattle.passkey_json.specs.Fault.{Gives};
+ghost use Rattle.passkey_json.specs.Fault.{Gives, IsFaultOf};
 ghost use Rattle.passkey_json.specs.Held.{GivesAs, HasLooked, found, names_of};
 ghost use Rattle.passkey_json.specs.Look.{entry_of};
-ghost use Rattle.passkey_json.specs.Members.{MemberTakes, record_kind, takes_in};
+ghost use Rattle.passkey_json.specs.Members.{MemberTakes, in_object, record_kind, takes_in};
 ghost use Rattle.passkey_json.specs.Table.{AreBack, PlainTable, RowIsBack, encoded_row, entries, looked, members_in, read_row, rows_of, shape_row, table_json, table_shape, takes_of, takes_row};
 ghost use Rattle.passkey_json.specs.Written.{put_rows, so_far};
 ghost use Rattle.serde_json.specs.View.{view};
@@ -129,6 +129,18 @@ impl<R: PlainJsonRecord> JsonRecord for R {
     }
 }
 
+/// Returns the fault of decoding the record from the JSON value, if it has one. Returns `OutOfMemory`
+/// if an allocation fails.
+fn fault_of<R: JsonRecord>(alloc: Global, value: &Value) -> Result<Option<JsonFault>, OutOfMemory>
+    ensures { IfOk result (IsFaultOf (in_object R.members (view value.now))) }
+{
+    match R::from_json(alloc, value) {
+        Ok(_) => Ok(None),
+        Err(JsonFault::OutOfMemory) => Err(OutOfMemory),
+        Err(fault) => Ok(Some(fault)),
+    }
+}
+
 impl<R: PlainJsonRecord> FromJson for R {
     ghost kind = { record_kind (members_in R.table) };
 
@@ -141,11 +153,7 @@ impl<R: PlainJsonRecord> FromJson for R {
     }
 
     fn look(alloc: Global, value: &Value) -> Result<Look, OutOfMemory> {
-        let fault = match R::from_json(alloc, value) {
-            Ok(_) => None,
-            Err(JsonFault::OutOfMemory) => return Err(OutOfMemory),
-            Err(fault) => Some(fault),
-        };
+        let fault = fault_of::<R>(alloc, value)?;
         Ok(Look {
             is_accepted: fault.is_none(),
             form: Form::Record(fault, R::rows()),
