@@ -98,7 +98,7 @@ impl PlainJsonRecord for ClientExtensionInputs {
         }
     }
 
-    fn put(&mut self, number: u8, member: Member<'_>) -> Result<(), JsonFault> {
+    fn put(&mut self, number: u8, member: &mut Member<'_>) -> Result<(), JsonFault> {
         match number {
             1 => self.appid = member.or_default(None)?,
             2 => self.appid_exclude = member.or_default(None)?,
@@ -220,7 +220,7 @@ impl PlainJsonRecord for ClientExtensionOutputs {
         }
     }
 
-    fn put(&mut self, number: u8, member: Member<'_>) -> Result<(), JsonFault> {
+    fn put(&mut self, number: u8, member: &mut Member<'_>) -> Result<(), JsonFault> {
         match number {
             1 => self.appid = member.or_default(None)?,
             2 => self.appid_exclude = member.or_default(None)?,

@@ -33,7 +33,7 @@ impl PlainJsonRecord for HmacGetSecretInputs {
         }
     }
 
-    fn put(&mut self, number: u8, member: Member<'_>) -> Result<(), JsonFault> {
+    fn put(&mut self, number: u8, member: &mut Member<'_>) -> Result<(), JsonFault> {
         match number {
             1 => self.salt1 = member.required()?,
             2 => self.salt2 = member.or_default(None)?,
@@ -75,7 +75,7 @@ impl PlainJsonRecord for HmacGetSecretOutputs {
         }
     }
 
-    fn put(&mut self, number: u8, member: Member<'_>) -> Result<(), JsonFault> {
+    fn put(&mut self, number: u8, member: &mut Member<'_>) -> Result<(), JsonFault> {
         match number {
             1 => self.output1 = member.required()?,
             2 => self.output2 = member.or_default(None)?,

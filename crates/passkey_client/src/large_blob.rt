@@ -36,7 +36,7 @@ impl PlainJsonRecord for LargeBlobInputs {
         }
     }
 
-    fn put(&mut self, number: u8, member: Member<'_>) -> Result<(), JsonFault> {
+    fn put(&mut self, number: u8, member: &mut Member<'_>) -> Result<(), JsonFault> {
         match number {
             1 => self.support = member.or_default(None)?,
             2 => self.read = member.or_default(None)?,
@@ -87,7 +87,7 @@ impl PlainJsonRecord for LargeBlobOutputs {
         }
     }
 
-    fn put(&mut self, number: u8, member: Member<'_>) -> Result<(), JsonFault> {
+    fn put(&mut self, number: u8, member: &mut Member<'_>) -> Result<(), JsonFault> {
         match number {
             1 => self.supported = member.or_default(None)?,
             2 => self.blob = member.or_default(None)?,

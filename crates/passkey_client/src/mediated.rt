@@ -40,7 +40,7 @@ impl<O: PlainJsonRecord> PlainJsonRecord for MediatedOptions<O> {
         }
     }
 
-    fn put(&mut self, number: u8, member: Member<'_>) -> Result<(), JsonFault> {
+    fn put(&mut self, number: u8, member: &mut Member<'_>) -> Result<(), JsonFault> {
         match number {
             1 => self.public_key = member.required()?,
             2 => self.mediation = member.or_default(None)?,

@@ -1,8 +1,13 @@
 //! Names of credential protection policies and of mediation.
 ghost use Rattle.std.specs.Prelude.{Some};
 ghost use Rattle.passkey_client.specs.Names.{mediation_name, mediation_own, mediation_value, mediations, policies, policy_name, policy_own, policy_value};
+ghost use Rattle.passkey_json.specs.Shape.{leaf};
+ghost use Rattle.passkey_json.specs.declared.wanted.WantedJson.TheVariants.{Name};
 
-use passkey_json::{BytesForm, FromJson, JsonRefusal, ToJson, read_name, written_name};
+use passkey_json::{
+    BytesForm, FromJson, JsonRefusal, Look, ToJson, WantedJson, look_at_leaf, read_name,
+    written_name,
+};
 use passkey_memory::OutOfMemory;
 use passkey_webauthn::EnumNames;
 use serde_json::Value;
@@ -55,11 +60,20 @@ impl fmt::Display for CredentialProtectionPolicy {
 impl FromJson for CredentialProtectionPolicy {
     ghost kind = { policy_value.kind };
 
+    ghost shape = { leaf Name };
+
     fn from_value(
         _alloc: Global,
         value: &Value,
     ) -> Result<CredentialProtectionPolicy, JsonRefusal> {
         read_name(value)
+    }
+
+    fn look(alloc: Global, value: &Value) -> Result<Look, OutOfMemory> {
+        look_at_leaf(
+            CredentialProtectionPolicy::from_value(alloc, value),
+            WantedJson::Name,
+        )
     }
 }
 
@@ -112,11 +126,20 @@ impl fmt::Display for CredentialMediationRequirement {
 impl FromJson for CredentialMediationRequirement {
     ghost kind = { mediation_value.kind };
 
+    ghost shape = { leaf Name };
+
     fn from_value(
         _alloc: Global,
         value: &Value,
     ) -> Result<CredentialMediationRequirement, JsonRefusal> {
         read_name(value)
+    }
+
+    fn look(alloc: Global, value: &Value) -> Result<Look, OutOfMemory> {
+        look_at_leaf(
+            CredentialMediationRequirement::from_value(alloc, value),
+            WantedJson::Name,
+        )
     }
 }
 

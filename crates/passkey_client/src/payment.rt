@@ -44,7 +44,7 @@ impl PlainJsonRecord for PaymentCurrencyAmount {
         }
     }
 
-    fn put(&mut self, number: u8, member: Member<'_>) -> Result<(), JsonFault> {
+    fn put(&mut self, number: u8, member: &mut Member<'_>) -> Result<(), JsonFault> {
         match number {
             1 => self.currency = member.required()?,
             2 => self.value = member.required()?,
@@ -124,7 +124,7 @@ impl PlainJsonRecord for PaymentEntityLogo {
         }
     }
 
-    fn put(&mut self, number: u8, member: Member<'_>) -> Result<(), JsonFault> {
+    fn put(&mut self, number: u8, member: &mut Member<'_>) -> Result<(), JsonFault> {
         match number {
             1 => self.url = member.required()?,
             2 => self.label = member.required()?,
@@ -173,7 +173,7 @@ impl PlainJsonRecord for PaymentCredentialInstrument {
         }
     }
 
-    fn put(&mut self, number: u8, member: Member<'_>) -> Result<(), JsonFault> {
+    fn put(&mut self, number: u8, member: &mut Member<'_>) -> Result<(), JsonFault> {
         match number {
             1 => self.display_name = member.required()?,
             2 => self.icon = member.required()?,
@@ -251,7 +251,7 @@ impl PlainJsonRecord for PaymentInputs {
         }
     }
 
-    fn put(&mut self, number: u8, member: Member<'_>) -> Result<(), JsonFault> {
+    fn put(&mut self, number: u8, member: &mut Member<'_>) -> Result<(), JsonFault> {
         match number {
             1 => self.is_payment = member.or_default(None)?,
             2 => self.rp_id = member.or_default(None)?,
@@ -304,7 +304,7 @@ impl PlainJsonRecord for BrowserBoundSignature {
         }
     }
 
-    fn put(&mut self, number: u8, member: Member<'_>) -> Result<(), JsonFault> {
+    fn put(&mut self, number: u8, member: &mut Member<'_>) -> Result<(), JsonFault> {
         if number == 1 {
             self.signature = member.required()?;
         }
@@ -340,7 +340,7 @@ impl PlainJsonRecord for PaymentOutputs {
         }
     }
 
-    fn put(&mut self, number: u8, member: Member<'_>) -> Result<(), JsonFault> {
+    fn put(&mut self, number: u8, member: &mut Member<'_>) -> Result<(), JsonFault> {
         if number == 1 {
             self.browser_bound_signature = member.or_default(None)?;
         }

@@ -83,7 +83,7 @@ impl PlainJsonRecord for AdditionalPaymentData {
         }
     }
 
-    fn put(&mut self, number: u8, member: Member<'_>) -> Result<(), JsonFault> {
+    fn put(&mut self, number: u8, member: &mut Member<'_>) -> Result<(), JsonFault> {
         match number {
             1 => self.rp_id = member.required()?,
             2 => self.top_origin = member.required()?,
@@ -135,7 +135,7 @@ impl PlainJsonRecord for RegistrationPaymentData {
         }
     }
 
-    fn put(&mut self, number: u8, member: Member<'_>) -> Result<(), JsonFault> {
+    fn put(&mut self, number: u8, member: &mut Member<'_>) -> Result<(), JsonFault> {
         if number == 1 {
             self.browser_bound_public_key = member.or_default(None)?;
         }
@@ -182,7 +182,7 @@ impl ClientDataExtra for PaymentData {
 
     #[tactic(auto, unfolding(passkey_json::specs::Members::if_present))]
     fn from_object(object: &Object<'_>) -> Result<PaymentData, JsonFault> {
-        let payment = object.member("payment");
+        let mut payment = object.member("payment");
         if is_creation(object.member("type").if_present()?) {
             Ok(match payment.if_present()? {
                 Some(payment) => PaymentData::Registration(payment),

@@ -29,7 +29,7 @@ impl PlainJsonRecord for UnknownCredentialOptions {
         }
     }
 
-    fn put(&mut self, number: u8, member: Member<'_>) -> Result<(), JsonFault> {
+    fn put(&mut self, number: u8, member: &mut Member<'_>) -> Result<(), JsonFault> {
         match number {
             1 => self.rp_id = member.required()?,
             2 => self.credential_id = member.required()?,
@@ -78,7 +78,7 @@ impl PlainJsonRecord for AllAcceptedCredentialsOptions {
         }
     }
 
-    fn put(&mut self, number: u8, member: Member<'_>) -> Result<(), JsonFault> {
+    fn put(&mut self, number: u8, member: &mut Member<'_>) -> Result<(), JsonFault> {
         match number {
             1 => self.rp_id = member.required()?,
             2 => self.user_id = member.required()?,
@@ -133,7 +133,7 @@ impl PlainJsonRecord for CurrentUserDetailsOptions {
         }
     }
 
-    fn put(&mut self, number: u8, member: Member<'_>) -> Result<(), JsonFault> {
+    fn put(&mut self, number: u8, member: &mut Member<'_>) -> Result<(), JsonFault> {
         match number {
             1 => self.rp_id = member.required()?,
             2 => self.user_id = member.required()?,

@@ -1,5 +1,5 @@
 -- What is to blame in a JSON value from which no client data is decoded.
-use Rattle.std.proofs.Common.{◌≡◌, ◌∙◌, ℕ, Bool, true, false, not, ◌&&◌, ◌||◌, if◌then◌else◌, List, [], Option, Some, None, Result, Ok, Err, is_some, is_ok, inl, inr, refl, sym, ap, subst}
+use Rattle.std.proofs.Common.{◌≡◌, ◌∙◌, ℕ, Bool, true, false, not, ◌&&◌, ◌||◌, if◌then◌else◌, List, [], ◌∷◌, Option, Some, None, Result, Ok, Err, is_some, is_ok, inl, inr, refl, sym, ap, subst}
 use Rattle.std.specs.Prelude.{codes}
 use Rattle.std.specs.Result.{result_ok}
 use Rattle.std.specs.Ordering.{nat_cmp, match_ordering}
@@ -19,13 +19,14 @@ use Rattle.passkey_json.specs.declared.json_fault.JsonFault.{JsonFault}
 use Rattle.serde_json.specs.Data.{Data, null, boolean, number, string, array, object, Members, no_members, member}
 use Rattle.serde_json.specs.Find.{get, get_member}
 use Rattle.serde_json.specs.Written.{has_float, members_have_float}
-use Rattle.passkey_explain_json.specs.Blame.{Blame, blame_of, value_along}
-use Rattle.passkey_explain_json.specs.ClientDataBlame.{plain_client_data, is_client_data, none_known, nothing_read, client_data_blame, first_float, blame_unknown, IsClientDataExplained, ExplainsUnknown}
+use Rattle.passkey_json.specs.Along.{accepts, HasMember, IsOnce, IsRefusedAt, value_along}
+use Rattle.passkey_json.specs.Shape.{Step, named}
+use Rattle.passkey_explain_json.specs.Blame.{path_of, reason_of, wanted}
+use Rattle.passkey_explain_json.specs.ClientDataBlame.{plain_client_data, is_client_data, none_known, nothing_read, first_float, IsBlamedOrFloat, IsClientDataExplained, ExplainsUnknown}
 use Rattle.passkey_explain_json.specs.Explains.{IsExplained}
-use Rattle.passkey_explain_json.specs.Law.{accepts, HasMember, IsOnce, IsToBlame, refused_too}
-use Rattle.passkey_explain_json.specs.Rows.{client_data_rows}
 use Rattle.passkey_explain_json.specs.declared.blame.JsonBlame.{JsonBlame}
 use Rattle.passkey_json.specs.declared.json_fault.JsonFault.TheVariants as fault
+use Rattle.passkey_json.specs.declared.wanted.WantedJson.TheVariants as want
 
 abbrev fixed_in : Data → Result FixedMembers Fault
 fixed_in = in_object (members_in fixed_members)
@@ -65,13 +66,14 @@ fixed_case d (Err f) e bad = rw (fixed_fault d f e) refl
 fixed_fails : (d : Data) → accepts (record_kind (members_in fixed_members)) d ≡ false → is_client_data d ≡ false
 fixed_fails d bad = fixed_case d (fixed_in d) refl bad
 
-pub fixed_explained : (d : Data) (f : JsonFault) (b : JsonBlame) → IsExplained fixed_members client_data_rows d f b
+pub fixed_explained : (d : Data) (f : JsonFault) (b : JsonBlame) → IsExplained fixed_members d f b
     → IsClientDataExplained d f b
 fixed_explained d f b h = record {
   given = fixed_given d f h.given;
-  blamed = h.blamed ∙ sym (rw (not_ok (fixed_in d) f h.given) refl);
-  to_blame = λ once. refused_too (λ e. accepts (record_kind (members_in fixed_members)) e ≡ false)
-      (λ e. is_client_data e ≡ false) d (blame_of b).path fixed_fails (h.to_blame once);
+  blamed = subst (λ (c : Bool). IsBlamedOrFloat c d b) (sym (not_ok (fixed_in d) f h.given)) h.blamed;
+  to_blame = λ once.
+      let r = h.to_blame once in
+      record { part = r.part; there = r.there; refused = λ e same. fixed_fails e (r.refused e same) };
 }
 
 -- ---- the unknown members
@@ -221,16 +223,13 @@ module _ (d : Data) (ms : Members) (is : d ≡ object ms) where
     float_there once =
         ap (get name) is ∙ once [] ms (ap (λ (x : Data). Some x) is) name found.value found.there
 
-    float_blamed : is_ok (fixed_in d) ≡ true → client_data_blame d ≡ blame_unknown (Some name)
-    float_blamed fixed = rw (fixed, is, e) refl
-
     pub float_explained : (f : JsonFault) (b : JsonBlame) → is_ok (fixed_in d) ≡ true
         → Gives {A = ClientData (Unit {0})} ⊥ (Err (float (codes "unknown_keys"))) (Err f)
-        → blame_of b ≡ blame_unknown (Some name) → IsClientDataExplained d f b
-    float_explained f b fixed given blamed = record {
+        → path_of b ≡ named name ∷ [] → reason_of b.reason ≡ wanted want.NoFloat → IsClientDataExplained d f b
+    float_explained f b fixed given path reason = record {
       given = subst (λ (r : Result (ClientData (Unit {0})) Fault). Gives ⊥ r (Err f)) (sym (float_told fixed)) given;
-      blamed = blamed ∙ sym (float_blamed fixed);
-      to_blame = λ once. subst (λ (x : Blame). IsToBlame is_client_data d x.path) (sym blamed) (record {
+      blamed = rw (fixed, is, e) (path, reason);
+      to_blame = λ once. subst (λ (x : List Step). IsRefusedAt is_client_data d x) (sym path) (record {
         part = found.value;
         there = rw (float_there once) refl;
         refused = λ x same. part_case name found.value x found.unfixed found.floats (get name x) refl same;

@@ -1,78 +1,58 @@
--- What lists, maps and records that refuse a JSON value blame.
-use Rattle.std.specs.Prelude.{ℕ, suc, if◌then◌else◌, List, [], ◌∷◌, Option, Some, None, is_some, Result, Ok, Err}
-use Rattle.std.specs.Str.{bytes_eq}
-use Rattle.passkey_json.specs.Fault.{Fault, no_object, missing, refused, float, repeated}
-use Rattle.passkey_json.specs.Kind.{Kind}
-use Rattle.passkey_json.specs.Members.{Object, in_object}
-use Rattle.passkey_json.specs.Table.{Entry, PlainTable, entries, members_in}
-use Rattle.serde_json.specs.Data.{Data, array, object, Items, no_items, item, Members, no_members, member}
+-- What a type that refuses a JSON value blames: where in it, and why.
+use Rattle.std.specs.Prelude.{◌≡◌, ℕ, List, [], ◌∷◌, Option, Some, None, option_map}
+use Rattle.passkey_json.specs.Fault.{Fault, missing, repeated}
+use Rattle.passkey_json.specs.Shape.{Entry, Shape, leaf, list, record_of, Rows, Tested, Step, Part, part, part_of, row_at, row_in, within}
+use Rattle.passkey_json.specs.Shape as shape
+use Rattle.passkey_json.specs.declared.wanted.WantedJson.TheVariants as want
+use Rattle.serde_json.specs.Data.{Data}
 use Rattle.serde_json.specs.Find.{get}
-use Rattle.passkey_explain_json.specs.Blame.{Blame, at_reason, wants, under, named, element, lacks, repeats}
-use Rattle.passkey_explain_json.specs.declared.wanted.WantedJson.TheVariants as wanted
+use Rattle.serde_json.specs.View.{view}
+use Rattle.passkey_explain_json.specs.Blame.{Reason, wanted, lacks, repeats, step_of, reason_of}
+use Rattle.passkey_explain_json.specs.declared.descent.Next.{Next}
+use Rattle.passkey_explain_json.specs.declared.descent.Next.TheVariants as next
 
--- what a type blames in a JSON value that it refuses
-abbrev pub Blaming : Type 0
-Blaming = Data → Blame
+-- ---- what is blamed
 
--- ---- lists: the first element that is refused, or the value itself if it is no array
+abbrev pub fault_reason : Option Fault → Reason
+fault_reason (Some (missing name)) = lacks name
+fault_reason (Some (repeated name)) = repeats name
+fault_reason _ = wanted want.Object
 
-abbrev pub blame_elements : {A : Type 0} → Kind A → Blaming → ℕ → Items → Blame
-blame_elements kind blame n no_items = wants wanted.Array
-blame_elements kind blame n (item d ds) =
-    if is_some (kind d) then blame_elements kind blame (suc n) ds else under (element n) (blame d)
+-- why the value itself is to blame
+abbrev pub reason_at : Shape → Data → Reason
+reason_at (leaf w) d = wanted w
+reason_at (list a s) d = wanted want.Array
+reason_at (shape.map a s) d = wanted want.Object
+reason_at (record_of fault rows) d = fault_reason (fault d)
 
-abbrev pub list_blame : {A : Type 0} → Kind A → Blaming → Blaming
-list_blame kind blame (array ds) = blame_elements kind blame 0 ds
-list_blame kind blame _ = wants wanted.Array
+-- Each step leads to what the shape there blames within the value, and nothing within the last value is to blame.
+abbrev pub IsBlamed : List Step → Reason → Shape → Data → Type 0
+IsBlamed [] why s d = (within s d ≡ None) × (why ≡ reason_at s d)
+IsBlamed (t ∷ ts) why s d =
+    (p : Part) × ((within s d ≡ Some p) × ((p.step ≡ t) × IsBlamed ts why p.as_part.shape p.value))
 
--- ---- maps from texts: the first member that is refused, or the value itself if it is no object
+-- ---- step by step
 
-abbrev pub blame_members : {A : Type 0} → Kind A → Blaming → Members → Blame
-blame_members kind blame no_members = wants wanted.Object
-blame_members kind blame (member name d ms) =
-    if is_some (kind d) then blame_members kind blame ms else under (named name) (blame d)
+abbrev pub own_present : List ℕ → Option Data → Option (List ℕ × Data) → Option (List ℕ × Data)
+own_present name (Some x) other = Some (name, x)
+own_present name None other = other
 
-abbrev pub map_blame : {A : Type 0} → Kind A → Blaming → Blaming
-map_blame kind blame (object ms) = blame_members kind blame ms
-map_blame kind blame _ = wants wanted.Object
+abbrev pub other_present : Option (List ℕ) → Data → Option (List ℕ × Data)
+other_present None d = None
+other_present (Some name) d = option_map (λ x. (name, x)) (get name d)
 
--- ---- records: what has the first fault in the table's order
+-- the member's value, and the name under which it is present
+abbrev pub present_in : Entry → Data → Option (List ℕ × Data)
+present_in e d = own_present e.name (get e.name d) (other_present e.other d)
 
--- what each row's type blames, by the row's number
-abbrev pub Rows : Type 0
-Rows = ℕ → Blaming
+-- What the shape blames is there.
+abbrev pub NextIs : Shape → Data → Next → Type 0
+NextIs s d (next.Here r) = (within s d ≡ None) × (reason_of r ≡ reason_at s d)
+NextIs s d (next.Into t n v) =
+    (u : Tested) × ((part_of n s ≡ Some u) × (within s d ≡ Some (part (step_of t) n (view v.now) u)))
 
--- the value under this name, if there is one
-abbrev pub blame_under : Blaming → List ℕ → Option Data → Blame
-blame_under blame name (Some d) = under (named name) (blame d)
-blame_under blame name None = wants wanted.Object
-
--- the value under the other name, if there is one
-abbrev pub blame_other : Blaming → Option (List ℕ) → Object → Blame
-blame_other blame (Some name) o = blame_under blame name (o name)
-blame_other blame None o = wants wanted.Object
-
--- the member's value, under the name under which it is present
-abbrev pub blame_entry : Blaming → Entry → Option Data → Object → Blame
-blame_entry blame e (Some d) o = under (named e.name) (blame d)
-blame_entry blame e None o = blame_other blame e.other o
-
--- the value of the member with this name
-abbrev pub blame_named : Rows → List Entry → List ℕ → Object → Blame
-blame_named rows [] name o = wants wanted.Object
-blame_named rows (e ∷ es) name o =
-    if bytes_eq name e.name then blame_entry (rows e.number) e (o e.name) o else blame_named rows es name o
-
-abbrev pub blame_fault : Rows → List Entry → Object → Fault → Blame
-blame_fault rows es o no_object = wants wanted.Object
-blame_fault rows es o (missing name) = at_reason (lacks name)
-blame_fault rows es o (repeated name) = at_reason (repeats name)
-blame_fault rows es o (refused name) = blame_named rows es name o
-blame_fault rows es o (float name) = blame_named rows es name o
-
-abbrev pub blame_result : {P : Type 0} → Rows → List Entry → Object → Result P Fault → Blame
-blame_result rows es o (Ok r) = wants wanted.Object
-blame_result rows es o (Err f) = blame_fault rows es o f
-
-unfoldable pub record_blame : {P : Type 0} → PlainTable P → Rows → Blaming
-record_blame t rows d = blame_result rows (entries t.members) (λ name. get name d) (in_object (members_in t) d)
+-- The same of the row with this name.
+abbrev pub NextAtRow : Rows → List ℕ → Data → Next → Type 0
+NextAtRow rows name d (next.Here r) = (row_at rows name d ≡ None) × (reason_of r ≡ wanted want.Object)
+NextAtRow rows name d (next.Into t n v) =
+    (u : Tested) × ((row_in rows n ≡ Some u) × (row_at rows name d ≡ Some (part (step_of t) n (view v.now) u)))

@@ -1,35 +1,16 @@
 //! Why a JSON value isn't decoded as client data (WebAuthn Level 3, section 5.8.1).
 ghost use Rattle.std.specs.Prelude.{◌≡◌, IfOk, None, option_map};
 ghost use Rattle.passkey_explain_json.specs.ClientDataBlame.{ExplainsClientData, ExplainsUnknown, first_float};
-ghost use Rattle.passkey_explain_json.specs.Rows.{client_data_rows};
-ghost use Rattle.passkey_explain_json.specs.RowsLaw.{client_data_hold};
 ghost use Rattle.serde_json.specs.View.{members_view, view};
 
-use crate::blame::{JsonBlame, JsonStep};
-use crate::blames::BlamesRows;
+use crate::blame::{JsonBlame, JsonReason, JsonStep};
 use crate::explanation::{JsonExplanation, explain_json};
-use crate::wanted::WantedJson;
 use passkey_bytes::Text;
-use passkey_json::{JsonFault, holds_float};
+use passkey_json::{JsonFault, WantedJson, holds_float};
 use passkey_memory::OutOfMemory;
 use passkey_webauthn_json::client_data::{FixedMembers, is_fixed};
 use serde_json::{Map, Value};
 use std::alloc::Global;
-
-impl BlamesRows for FixedMembers {
-    ghost rows_blame = { client_data_rows };
-
-    ghost rows_hold = { client_data_hold };
-
-    fn blame_row(alloc: Global, number: u8, _value: &Value) -> Result<JsonBlame, OutOfMemory> {
-        let wanted = match number {
-            1 => WantedJson::Name,
-            4 => WantedJson::Boolean,
-            _ => WantedJson::Text,
-        };
-        Ok(JsonBlame::wanted(alloc, wanted))
-    }
-}
 
 /// Returns the name of the first unknown member that contains a float.
 fn unknown_float(members: &Map<String, Value>) -> Option<&str>
@@ -53,10 +34,12 @@ fn explain_unknown(alloc: Global, value: &Value) -> Result<Option<JsonExplanatio
     let Some(name) = unknown_float(members) else {
         return Ok(None);
     };
-    let step = JsonStep::Named(Text::from_str(alloc, name)?);
+    let mut path = Vec::new(alloc);
+    path.push(JsonStep::Named(Text::from_str(alloc, name)?))?;
+    let reason = JsonReason::Wanted(WantedJson::NoFloat);
     Ok(Some(JsonExplanation {
         fault: JsonFault::Float("unknown_keys"),
-        blame: JsonBlame::wanted(alloc, WantedJson::NoFloat).under(step)?,
+        blame: JsonBlame { path, reason },
     }))
 }
 

@@ -4,9 +4,8 @@ ghost use Rattle.passkey_explain_json.specs.Explains.{Explains};
 ghost use Rattle.serde_json.specs.View.{view};
 
 use crate::blame::JsonBlame;
-use crate::blames::BlamesRows;
-use crate::records::blame_fault;
-use passkey_json::{JsonFault, JsonRecord};
+use crate::descent::blame_json;
+use passkey_json::{JsonFault, PlainJsonRecord, find_fault};
 use passkey_memory::OutOfMemory;
 use serde_json::Value;
 use std::alloc::Global;
@@ -23,16 +22,15 @@ pub struct JsonExplanation {
 /// Explains why the record isn't decoded from the JSON value. Returns `None` exactly if it is, as by
 /// `JsonRecord::from_json`, and `OutOfMemory` if an allocation fails. A record inside others is
 /// decoded once for each of them.
-pub fn explain_json<R: BlamesRows>(
+pub fn explain_json<R: PlainJsonRecord>(
     alloc: Global,
     value: &Value,
 ) -> Result<Option<JsonExplanation>, OutOfMemory>
-    ensures { IfOk result (Explains R.table R.rows_blame (view value.now)) }
+    ensures { IfOk result (Explains R.table (view value.now)) }
 {
-    let fault = match R::from_json(alloc, value) {
-        Ok(_) => return Ok(None),
-        Err(fault) => fault,
+    let Some(fault) = find_fault::<R>(alloc, value)? else {
+        return Ok(None);
     };
-    let blame = blame_fault::<R>(alloc, value, fault)?;
+    let blame = blame_json::<R>(alloc, value)?;
     Ok(Some(JsonExplanation { fault, blame }))
 }

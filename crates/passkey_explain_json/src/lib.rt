@@ -3,21 +3,12 @@
 #![tactic(auto)]
 
 mod blame;
-mod blames;
 mod client_data;
-mod credentials;
+mod descent;
 mod display;
 mod explanation;
-mod extensions;
-mod leaves;
-mod lists;
-mod options;
-mod records;
-mod wanted;
-mod webauthn;
 
 pub use blame::{JsonBlame, JsonReason, JsonStep};
-pub use blames::{Blames, BlamesRows};
 pub use client_data::explain_client_data;
+pub use descent::blame_json;
 pub use explanation::{JsonExplanation, explain_json};
-pub use wanted::WantedJson;

@@ -6,7 +6,7 @@ use Rattle.passkey_json.specs.Fault.{Fault, IsFaultOf, fault_in}
 use Rattle.std.specs.Result.{result_ok}
 use Rattle.passkey_json.specs.Held.{GivesAs}
 use Rattle.passkey_json.specs.Look.{Looks, LooksAs, FoundAs, HasForm, IsPut, IsSeen, entry_of, tested, told}
-use Rattle.passkey_json.specs.Members.{◌>>=◌, Member, in_object, record_kind, under}
+use Rattle.passkey_json.specs.Members.{◌>>=◌, in_object, record_kind, under}
 use Rattle.passkey_json.specs.Shape.{Entry, Shape, Tested, entries_in, reached, part_of, row_in}
 use Rattle.passkey_json.specs.Table.{JsonMember, PlainTable, entries, members_in, put_found, read_from, rows_in, shape_from, table_shape}
 use Rattle.passkey_json.specs.declared.json_fault.JsonFault.{JsonFault}
@@ -64,21 +64,21 @@ put_accepts : {A P : Type 0} (m : JsonMember P) (name : List ℕ) (d : Data) (r 
     → b ≡ m.accepts d
 put_accepts {A = A} m name d r seen Takes put b h a = is_put put b (m.read (under name (Some d))) h a
     ∙ m.judges.says name d where
-  is_put : (put : Result A JsonFault) (b : Bool) (x : Result m.Value Fault)
-      → GivesAs Takes seen (x >>= λ v. Ok (m.set v r)) put → IsPut put b → b ≡ is_ok x
-  is_put (Ok y) b (Ok v) h a = a
-  is_put (Ok y) b (Err f) h a = absurd cc
-  is_put (Err fault.OutOfMemory) b x h a = absurd a
-  is_put (Err fault.NotAnObject) b (Ok v) h a = absurd cc
-  is_put (Err fault.NotAnObject) b (Err f) h a = a
-  is_put (Err (fault.Missing n)) b (Ok v) h a = absurd cc
-  is_put (Err (fault.Missing n)) b (Err f) h a = a
-  is_put (Err (fault.Refused n)) b (Ok v) h a = absurd cc
-  is_put (Err (fault.Refused n)) b (Err f) h a = a
-  is_put (Err (fault.Float n)) b (Ok v) h a = absurd cc
-  is_put (Err (fault.Float n)) b (Err f) h a = a
-  is_put (Err (fault.Repeated n)) b (Ok v) h a = absurd cc
-  is_put (Err (fault.Repeated n)) b (Err f) h a = a
+      is_put : (put : Result A JsonFault) (b : Bool) (x : Result m.Value Fault)
+          → GivesAs Takes seen (x >>= λ v. Ok (m.set v r)) put → IsPut put b → b ≡ is_ok x
+      is_put (Ok y) b (Ok v) h a = a
+      is_put (Ok y) b (Err f) h a = absurd cc
+      is_put (Err fault.OutOfMemory) b x h a = absurd a
+      is_put (Err fault.NotAnObject) b (Ok v) h a = absurd cc
+      is_put (Err fault.NotAnObject) b (Err f) h a = a
+      is_put (Err (fault.Missing n)) b (Ok v) h a = absurd cc
+      is_put (Err (fault.Missing n)) b (Err f) h a = a
+      is_put (Err (fault.Refused n)) b (Ok v) h a = absurd cc
+      is_put (Err (fault.Refused n)) b (Err f) h a = a
+      is_put (Err (fault.Float n)) b (Ok v) h a = absurd cc
+      is_put (Err (fault.Float n)) b (Err f) h a = a
+      is_put (Err (fault.Repeated n)) b (Ok v) h a = absurd cc
+      is_put (Err (fault.Repeated n)) b (Err f) h a = a
 
 -- the row as a whole
 whole_row : {A P : Type 0} (ms : List (JsonMember P)) (n : ℕ) (name : List ℕ) (d : Data) (r : P) (seen : A → P)
@@ -92,8 +92,7 @@ whole_row {A} {P} (m ∷ ms) n name d r seen Takes put l = elim (n == m.entry.nu
     → IsPut put l.is_accepted
     → IfSome (if c then Some m.shape else shape_from ms n) (λ (s : Shape). HasForm s d l.form)
     → Looks (option_and_then (reached [])
-    (if c then Some (record { accepts = m.accepts; shape = m.shape }) else row_in (rows_in ms) n)) d (Ok l))
-    [
+    (if c then Some (record { accepts = m.accepts; shape = m.shape }) else row_in (rows_in ms) n)) d (Ok l)) [
       | true ↦ λ h a f. record { accepted = put_accepts m name d r seen Takes put l.is_accepted h a; form = f }
       | false ↦ whole_row ms n name d r seen Takes put l
     ]

@@ -1,12 +1,12 @@
 -- What a record blames in a JSON value that it refuses is to blame.
-use Rattle.std.specs.Prelude.{◌≡◌, ◌⊎◌, ℕ, ◌&&◌, ◌||◌, ◌==◌, not, Bool, true, false, if◌then◌else◌, List, [], ◌∷◌, Option, Some, None, is_some, option_map, Result, Ok, Err, is_ok, refl}
+use Rattle.std.specs.Prelude.{◌≡◌, ◌⊎◌, ℕ, ◌||◌, ◌==◌, not, Bool, true, false, if◌then◌else◌, List, [], ◌∷◌, Option, Some, None, is_some, Result, Ok, Err, is_ok, refl}
 use Rattle.std.specs.Option.{option_and_then}
 use Rattle.std.specs.Result.{result_ok}
 use Rattle.std.specs.Str.{bytes_eq}
 use Rattle.std.proofs.Common.{sym, ap, subst, ◌∙◌, true≢false, inl, inr}
 use Rattle.std.proofs.lemmas.Bool.{and_parts, eq-eqb, eqb-true, not-true}
 use Rattle.std.proofs.lemmas.Slice.Eq.{bytes_eq-Decides}
-use Rattle.passkey_json.specs.Along.{Strict, IsOnce, IsWithin, accepts, holds}
+use Rattle.passkey_json.specs.Along.{Strict, IsWithin, accepts, holds}
 use Rattle.passkey_json.specs.Fault.{Fault, no_object, missing, refused, float, repeated, fault_in, fault_name, is_refusal}
 use Rattle.passkey_json.specs.Members.{◌>>=◌, Object, Member, under, one_of, aliased, in_object, record_kind}
 use Rattle.passkey_json.specs.Record.{JsonMember, PlainTable, either_name, looked, read_all, entries, are_distinct, has_number, uses, is_other, is_other_apart, distinct, members_in, rows_in, table_shape}

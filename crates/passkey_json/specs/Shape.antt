@@ -2,7 +2,7 @@
 use Rattle.std.specs.Prelude.{ℕ, suc, ◌==◌, Bool, if◌then◌else◌, List, [], ◌∷◌, Option, Some, None, option_map}
 use Rattle.std.specs.Option.{option_and_then}
 use Rattle.std.specs.Str.{bytes_eq}
-use Rattle.passkey_json.specs.Fault.{Fault, no_object, missing, refused, float, repeated}
+use Rattle.passkey_json.specs.Fault.{Fault, refused, float}
 use Rattle.passkey_json.specs.declared.wanted.WantedJson.{WantedJson}
 use Rattle.serde_json.specs.Data.{Data, array, object, Items, no_items, item, Members, no_members, member}
 use Rattle.serde_json.specs.Find.{get, at}

@@ -10,7 +10,7 @@ ghost use Rattle.serde_json.specs.View.{view};
 use crate::bytes_form::BytesForm;
 use crate::from_json::FromJson;
 use crate::json_refusal::JsonRefusal;
-use crate::look::{Form, Look, looked};
+use crate::look::{Look, look_at_leaf};
 use crate::to_json::ToJson;
 use crate::wanted::WantedJson;
 use crate::written::array;
@@ -43,7 +43,7 @@ impl FromJson for Bytes {
     }
 
     fn look(alloc: Global, value: &Value) -> Result<Look, OutOfMemory> {
-        looked(Bytes::from_value(alloc, value), Form::Leaf(WantedJson::Bytes))
+        look_at_leaf(Bytes::from_value(alloc, value), WantedJson::Bytes)
     }
 }
 

@@ -9,7 +9,7 @@ ghost use Rattle.serde_json.specs.Data.{Data};
 ghost use Rattle.serde_json.specs.View.{view};
 
 use crate::json_refusal::JsonRefusal;
-use crate::look::{Form, Look, looked};
+use crate::look::{Look, look_at_leaf, looked};
 use crate::wanted::WantedJson;
 use passkey_bytes::Text;
 use passkey_iana::{Algorithm, EnumI64};
@@ -77,7 +77,7 @@ impl FromJson for bool {
     }
 
     fn look(alloc: Global, value: &Value) -> Result<Look, OutOfMemory> {
-        looked(bool::from_value(alloc, value), Form::Leaf(WantedJson::Boolean))
+        look_at_leaf(bool::from_value(alloc, value), WantedJson::Boolean)
     }
 }
 
@@ -96,7 +96,7 @@ impl FromJson for Text {
     }
 
     fn look(alloc: Global, value: &Value) -> Result<Look, OutOfMemory> {
-        looked(Text::from_value(alloc, value), Form::Leaf(WantedJson::Text))
+        look_at_leaf(Text::from_value(alloc, value), WantedJson::Text)
     }
 }
 
@@ -113,7 +113,7 @@ impl FromJson for u8 {
     }
 
     fn look(alloc: Global, value: &Value) -> Result<Look, OutOfMemory> {
-        looked(u8::from_value(alloc, value), Form::Leaf(WantedJson::Integer))
+        look_at_leaf(u8::from_value(alloc, value), WantedJson::Integer)
     }
 }
 
@@ -131,7 +131,7 @@ impl FromJson for u32 {
     }
 
     fn look(alloc: Global, value: &Value) -> Result<Look, OutOfMemory> {
-        looked(u32::from_value(alloc, value), Form::Leaf(WantedJson::Word))
+        look_at_leaf(u32::from_value(alloc, value), WantedJson::Word)
     }
 }
 
@@ -145,7 +145,7 @@ impl FromJson for i64 {
     }
 
     fn look(alloc: Global, value: &Value) -> Result<Look, OutOfMemory> {
-        looked(i64::from_value(alloc, value), Form::Leaf(WantedJson::Integer))
+        look_at_leaf(i64::from_value(alloc, value), WantedJson::Integer)
     }
 }
 
@@ -163,7 +163,7 @@ impl FromJson for Algorithm {
     }
 
     fn look(alloc: Global, value: &Value) -> Result<Look, OutOfMemory> {
-        looked(Algorithm::from_value(alloc, value), Form::Leaf(WantedJson::Algorithm))
+        look_at_leaf(Algorithm::from_value(alloc, value), WantedJson::Algorithm)
     }
 }
 

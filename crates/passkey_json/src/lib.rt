@@ -41,12 +41,12 @@ pub use json_fault::JsonFault;
 pub use json_record::{JsonRecord, read_nested};
 pub use json_refusal::JsonRefusal;
 pub use list::TolerantList;
-pub use look::{Form, Look, look_along, looked};
+pub use look::{Form, Look, look_along, look_at_leaf, looked};
 pub use member::{Member, place};
 pub use names::{read_name, written_name};
 pub use object::Object;
 pub use passkey_memory::OutOfMemory;
-pub use plain_json_record::PlainJsonRecord;
+pub use plain_json_record::{PlainJsonRecord, find_fault};
 pub use record_to_json::{RecordToJson, read_back};
 pub use requirements::{
     AuthenticatorAttachment, ResidentKeyRequirement, UserVerificationRequirement,

@@ -4,6 +4,7 @@ ghost use Rattle.std.specs.Option.{option_and_then};
 ghost use Rattle.passkey_json.specs.Look.{AcceptedIf, IsPut, Looks, tested};
 ghost use Rattle.passkey_json.specs.Shape.{reached, row_in};
 ghost use Rattle.passkey_json.specs.Table.{rows_in};
+ghost use Rattle.passkey_json.specs.declared.look.Form.TheVariants.{Leaf};
 ghost use Rattle.serde_json.specs.View.{view};
 
 use crate::from_json::FromJson;
@@ -51,6 +52,17 @@ pub fn looked<T: Drop>(read: Result<T, JsonRefusal>, form: Form) -> Result<Look,
     Ok(Look { is_accepted, form })
 }
 
+/// Returns whether the value was accepted, of which this is wanted as a whole. Returns `OutOfMemory`
+/// if an allocation failed.
+pub fn look_at_leaf<T: Drop>(
+    read: Result<T, JsonRefusal>,
+    wanted: WantedJson,
+) -> Result<Look, OutOfMemory>
+    ensures { IfOk result (λ l. AcceptedIf read l.is_accepted × (l.form ≡ Leaf wanted)) }
+{
+    looked(read, Form::Leaf(wanted))
+}
+
 /// Looks at the part of the type to which the way leads, as `FromJson::look_into` does; an empty way
 /// leads to the type itself.
 pub fn look_along<T: FromJson>(
@@ -96,4 +108,3 @@ pub(crate) fn look_at_row<R: PlainJsonRecord>(
         Some(_) => member.seen(),
     }
 }
-

@@ -12,7 +12,7 @@ ghost use Rattle.serde_json.specs.View.{view};
 use crate::bytes_form::BytesForm;
 use crate::from_json::FromJson;
 use crate::json_refusal::JsonRefusal;
-use crate::look::{Form, Look, looked};
+use crate::look::{Look, look_at_leaf};
 use crate::to_json::ToJson;
 use crate::wanted::WantedJson;
 use passkey_memory::OutOfMemory;
@@ -51,7 +51,10 @@ impl FromJson for PublicKeyCredentialType {
     }
 
     fn look(alloc: Global, value: &Value) -> Result<Look, OutOfMemory> {
-        looked(PublicKeyCredentialType::from_value(alloc, value), Form::Leaf(WantedJson::Name))
+        look_at_leaf(
+            PublicKeyCredentialType::from_value(alloc, value),
+            WantedJson::Name,
+        )
     }
 }
 
@@ -73,7 +76,10 @@ impl FromJson for AuthenticatorTransport {
     }
 
     fn look(alloc: Global, value: &Value) -> Result<Look, OutOfMemory> {
-        looked(AuthenticatorTransport::from_value(alloc, value), Form::Leaf(WantedJson::Name))
+        look_at_leaf(
+            AuthenticatorTransport::from_value(alloc, value),
+            WantedJson::Name,
+        )
     }
 }
 

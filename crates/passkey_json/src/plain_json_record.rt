@@ -60,7 +60,8 @@ pub trait PlainJsonRecord: Drop {
 }
 
 impl Row {
-    fn number(&self) -> u8
+    /// Returns the member's number.
+    pub fn number(&self) -> u8
         ensures { result ≡ (entry_of self.now).number }
     {
         match self {
@@ -68,7 +69,8 @@ impl Row {
         }
     }
 
-    fn name(&self) -> &'static str
+    /// Returns the member's name; if it has two, the one under which it is encoded.
+    pub fn name(&self) -> &'static str
         ensures { result.now ≡ (entry_of self.now).name }
     {
         match self {
@@ -131,7 +133,10 @@ impl<R: PlainJsonRecord> JsonRecord for R {
 
 /// Returns the fault of decoding the record from the JSON value, if it has one. Returns `OutOfMemory`
 /// if an allocation fails.
-fn fault_of<R: JsonRecord>(alloc: Global, value: &Value) -> Result<Option<JsonFault>, OutOfMemory>
+pub fn find_fault<R: JsonRecord>(
+    alloc: Global,
+    value: &Value,
+) -> Result<Option<JsonFault>, OutOfMemory>
     ensures { IfOk result (IsFaultOf (in_object R.members (view value.now))) }
 {
     match R::from_json(alloc, value) {
@@ -153,7 +158,7 @@ impl<R: PlainJsonRecord> FromJson for R {
     }
 
     fn look(alloc: Global, value: &Value) -> Result<Look, OutOfMemory> {
-        let fault = fault_of::<R>(alloc, value)?;
+        let fault = find_fault::<R>(alloc, value)?;
         Ok(Look {
             is_accepted: fault.is_none(),
             form: Form::Record(fault, R::rows()),

@@ -7,7 +7,7 @@ ghost use Rattle.passkey_json.specs.Requirements.{attachment_name, attachment_ow
 use crate::bytes_form::BytesForm;
 use crate::from_json::FromJson;
 use crate::json_refusal::JsonRefusal;
-use crate::look::{Form, Look, looked};
+use crate::look::{Look, look_at_leaf};
 use crate::names::{read_name, written_name};
 use crate::to_json::ToJson;
 use crate::wanted::WantedJson;
@@ -58,7 +58,10 @@ impl FromJson for AuthenticatorAttachment {
     }
 
     fn look(alloc: Global, value: &Value) -> Result<Look, OutOfMemory> {
-        looked(AuthenticatorAttachment::from_value(alloc, value), Form::Leaf(WantedJson::Name))
+        look_at_leaf(
+            AuthenticatorAttachment::from_value(alloc, value),
+            WantedJson::Name,
+        )
     }
 }
 
@@ -115,7 +118,10 @@ impl FromJson for ResidentKeyRequirement {
     }
 
     fn look(alloc: Global, value: &Value) -> Result<Look, OutOfMemory> {
-        looked(ResidentKeyRequirement::from_value(alloc, value), Form::Leaf(WantedJson::Name))
+        look_at_leaf(
+            ResidentKeyRequirement::from_value(alloc, value),
+            WantedJson::Name,
+        )
     }
 }
 
@@ -174,7 +180,10 @@ impl FromJson for UserVerificationRequirement {
     }
 
     fn look(alloc: Global, value: &Value) -> Result<Look, OutOfMemory> {
-        looked(UserVerificationRequirement::from_value(alloc, value), Form::Leaf(WantedJson::Name))
+        look_at_leaf(
+            UserVerificationRequirement::from_value(alloc, value),
+            WantedJson::Name,
+        )
     }
 }
 

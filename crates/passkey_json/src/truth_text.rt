@@ -8,7 +8,7 @@ ghost use Rattle.serde_json.specs.Data.{boolean};
 use crate::bytes_form::BytesForm;
 use crate::from_json::FromJson;
 use crate::json_refusal::JsonRefusal;
-use crate::look::{Form, Look, looked};
+use crate::look::{Look, look_at_leaf};
 use crate::to_json::ToJson;
 use crate::wanted::WantedJson;
 use passkey_memory::OutOfMemory;
@@ -65,7 +65,7 @@ impl FromJson for TruthText {
     }
 
     fn look(alloc: Global, value: &Value) -> Result<Look, OutOfMemory> {
-        looked(TruthText::from_value(alloc, value), Form::Leaf(WantedJson::BooleanText))
+        look_at_leaf(TruthText::from_value(alloc, value), WantedJson::BooleanText)
     }
 }
 

@@ -1,6 +1,7 @@
 //! Where JSON values are refused, and why.
 use crate::json::parsed;
-use passkey_explain_json::{BlamesRows, JsonExplanation, explain_client_data, explain_json};
+use passkey_explain_json::{JsonExplanation, explain_client_data, explain_json};
+use passkey_json::PlainJsonRecord;
 use passkey_webauthn_json::credentials::CreatedPublicKeyCredential;
 use passkey_webauthn_json::options::{CredentialCreationOptions, CredentialRequestOptions};
 use std::process::Abort;
@@ -8,7 +9,7 @@ use std::test::Fail;
 
 /// Ends the test unless this is how the record explains the JSON text: nothing if it is decoded, or
 /// the fault and what is to blame.
-fn expect<R: BlamesRows>(rt: &(impl Abort + AllocGlobal), text: &str, wanted: &str) {
+fn expect<R: PlainJsonRecord>(rt: &(impl Abort + AllocGlobal), text: &str, wanted: &str) {
     let value = parsed(rt, text);
     let found = explain_json::<R>(rt.alloc(), &value).expect(rt, "memory");
     expect_told(rt, &found, wanted);

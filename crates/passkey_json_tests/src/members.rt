@@ -39,8 +39,8 @@ fn put_refused(
 ) -> Result<AuthenticationExtensionsPrfOutputs, JsonFault> {
     let object = Object::of(alloc, value)?;
     let mut outputs = AuthenticationExtensionsPrfOutputs::blank(alloc);
-    let _results = outputs.put(2, object.member("results"));
-    let _enabled = outputs.put(1, object.member("enabled"));
+    let _results = outputs.put(2, &mut object.member("results"));
+    let _enabled = outputs.put(1, &mut object.member("enabled"));
     Ok(outputs)
 }
 

@@ -71,7 +71,7 @@ impl PlainJsonRecord for FixedMembers {
         }
     }
 
-    fn put(&mut self, number: u8, member: Member<'_>) -> Result<(), JsonFault> {
+    fn put(&mut self, number: u8, member: &mut Member<'_>) -> Result<(), JsonFault> {
         match number {
             1 => self.ty = member.required()?,
             2 => self.challenge = member.required()?,

@@ -1,8 +1,13 @@
 //! Types of client data, decoded from JSON values and encoded as names.
 ghost use Rattle.std.specs.Prelude.{Some};
 ghost use Rattle.passkey_webauthn_json.specs.client_data.ClientDataType.{client_data_type_name, client_data_type_own, client_data_type_value, client_data_types};
+ghost use Rattle.passkey_json.specs.Shape.{leaf};
+ghost use Rattle.passkey_json.specs.declared.wanted.WantedJson.TheVariants.{Name};
 
-use passkey_json::{BytesForm, FromJson, JsonRefusal, ToJson, read_name, written_name};
+use passkey_json::{
+    BytesForm, FromJson, JsonRefusal, Look, ToJson, WantedJson, look_at_leaf, read_name,
+    written_name,
+};
 use passkey_memory::OutOfMemory;
 use passkey_webauthn::EnumNames;
 use serde_json::Value;
@@ -47,8 +52,14 @@ impl fmt::Display for ClientDataType {
 impl FromJson for ClientDataType {
     ghost kind = { client_data_type_value.kind };
 
+    ghost shape = { leaf Name };
+
     fn from_value(_alloc: Global, value: &Value) -> Result<ClientDataType, JsonRefusal> {
         read_name(value)
+    }
+
+    fn look(alloc: Global, value: &Value) -> Result<Look, OutOfMemory> {
+        look_at_leaf(ClientDataType::from_value(alloc, value), WantedJson::Name)
     }
 }
 

@@ -45,7 +45,7 @@ impl PlainJsonRecord for AuthenticatorAssertionResponse {
         }
     }
 
-    fn put(&mut self, number: u8, member: Member<'_>) -> Result<(), JsonFault> {
+    fn put(&mut self, number: u8, member: &mut Member<'_>) -> Result<(), JsonFault> {
         match number {
             1 => place(&mut self.client_data_json, member.required()),
             2 => place(&mut self.authenticator_data, member.required()),

@@ -66,7 +66,7 @@ impl<R: AuthenticatorResponse> PlainJsonRecord for PublicKeyCredential<R> {
     }
 
     #[tactic(auto, unfolding(passkey_json::specs::Members::or_default))]
-    fn put(&mut self, number: u8, member: Member<'_>) -> Result<(), JsonFault> {
+    fn put(&mut self, number: u8, member: &mut Member<'_>) -> Result<(), JsonFault> {
         match number {
             1 => place(&mut self.id, member.required()),
             2 => place(&mut self.raw_id, member.required()),

@@ -91,7 +91,7 @@ impl PlainJsonRecord for PublicKeyCredentialCreationOptions {
         }
     }
 
-    fn put(&mut self, number: u8, member: Member<'_>) -> Result<(), JsonFault> {
+    fn put(&mut self, number: u8, member: &mut Member<'_>) -> Result<(), JsonFault> {
         match number {
             1 => place(&mut self.rp, member.required()),
             2 => place(&mut self.user, member.required()),

@@ -1,8 +1,13 @@
 //! What a relying party prefers, decoded from JSON values and encoded.
 ghost use Rattle.std.specs.Prelude.{Some};
 ghost use Rattle.passkey_webauthn_json.specs.options.Preferences.{conveyance_name, conveyance_own, conveyance_value, conveyances, format_name, format_own, format_value, formats, hint_name, hint_own, hint_value, hints};
+ghost use Rattle.passkey_json.specs.Shape.{leaf};
+ghost use Rattle.passkey_json.specs.declared.wanted.WantedJson.TheVariants.{Name};
 
-use passkey_json::{BytesForm, FromJson, JsonRefusal, ToJson, read_name, written_name};
+use passkey_json::{
+    BytesForm, FromJson, JsonRefusal, Look, ToJson, WantedJson, look_at_leaf, read_name,
+    written_name,
+};
 use passkey_memory::OutOfMemory;
 use passkey_webauthn::EnumNames;
 use serde_json::Value;
@@ -46,8 +51,17 @@ impl fmt::Display for PublicKeyCredentialHints {
 impl FromJson for PublicKeyCredentialHints {
     ghost kind = { hint_value.kind };
 
+    ghost shape = { leaf Name };
+
     fn from_value(_alloc: Global, value: &Value) -> Result<PublicKeyCredentialHints, JsonRefusal> {
         read_name(value)
+    }
+
+    fn look(alloc: Global, value: &Value) -> Result<Look, OutOfMemory> {
+        look_at_leaf(
+            PublicKeyCredentialHints::from_value(alloc, value),
+            WantedJson::Name,
+        )
     }
 }
 
@@ -99,11 +113,20 @@ impl fmt::Display for AttestationConveyancePreference {
 impl FromJson for AttestationConveyancePreference {
     ghost kind = { conveyance_value.kind };
 
+    ghost shape = { leaf Name };
+
     fn from_value(
         _alloc: Global,
         value: &Value,
     ) -> Result<AttestationConveyancePreference, JsonRefusal> {
         read_name(value)
+    }
+
+    fn look(alloc: Global, value: &Value) -> Result<Look, OutOfMemory> {
+        look_at_leaf(
+            AttestationConveyancePreference::from_value(alloc, value),
+            WantedJson::Name,
+        )
     }
 }
 
@@ -181,11 +204,20 @@ impl fmt::Display for AttestationStatementFormatIdentifiers {
 impl FromJson for AttestationStatementFormatIdentifiers {
     ghost kind = { format_value.kind };
 
+    ghost shape = { leaf Name };
+
     fn from_value(
         _alloc: Global,
         value: &Value,
     ) -> Result<AttestationStatementFormatIdentifiers, JsonRefusal> {
         read_name(value)
+    }
+
+    fn look(alloc: Global, value: &Value) -> Result<Look, OutOfMemory> {
+        look_at_leaf(
+            AttestationStatementFormatIdentifiers::from_value(alloc, value),
+            WantedJson::Name,
+        )
     }
 }
 

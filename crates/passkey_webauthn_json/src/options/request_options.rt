@@ -79,7 +79,7 @@ impl PlainJsonRecord for PublicKeyCredentialRequestOptions {
         }
     }
 
-    fn put(&mut self, number: u8, member: Member<'_>) -> Result<(), JsonFault> {
+    fn put(&mut self, number: u8, member: &mut Member<'_>) -> Result<(), JsonFault> {
         match number {
             1 => place(&mut self.challenge, member.required()),
             2 => place(&mut self.timeout, member.if_present()),
