@@ -4,3 +4,4 @@ pub mod Checked
 pub mod DataBlame
 pub mod DataLength
 pub mod StatementBlame
+pub mod Texts

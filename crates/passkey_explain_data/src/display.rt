@@ -1,4 +1,6 @@
 //! Refusals as a person reads them.
+ghost use Rattle.std.specs.Prelude.{Some};
+ghost use Rattle.passkey_explain_data.specs.Texts.{part_name, statement_blame_text, statement_explanation_text, statement_text};
 
 use crate::{
     DataPart, DataReason, DataRefusal, KeyBlame, KeyRefusal, StatementBlame, StatementExplanation,
@@ -70,6 +72,8 @@ impl fmt::Display for KeyRefusal {
 }
 
 impl fmt::Display for DataPart {
+    ghost output = { λ part. Some (part_name part) };
+
     fn fmt<W: fmt::Write>(&self, f: &mut fmt::Formatter<W>) -> fmt::Result {
         f.write_str(match self {
             DataPart::RpIdHash => "rpIdHash",
@@ -117,6 +121,8 @@ impl fmt::Display for DataRefusal {
 }
 
 impl fmt::Display for StatementBlame {
+    ghost output = { λ blame. Some (statement_blame_text blame) };
+
     fn fmt<W: fmt::Write>(&self, f: &mut fmt::Formatter<W>) -> fmt::Result {
         match self {
             StatementBlame::Item(blame) => write!(f, "{blame}"),
@@ -128,12 +134,16 @@ impl fmt::Display for StatementBlame {
 }
 
 impl fmt::Display for StatementRefusal {
+    ghost output = { λ refusal. Some (statement_text refusal) };
+
     fn fmt<W: fmt::Write>(&self, f: &mut fmt::Formatter<W>) -> fmt::Result {
         write!(f, "{} {}", self.blame, self.extent)
     }
 }
 
 impl fmt::Display for StatementExplanation {
+    ghost output = { λ explanation. Some (statement_explanation_text explanation) };
+
     fn fmt<W: fmt::Write>(&self, f: &mut fmt::Formatter<W>) -> fmt::Result {
         match self {
             StatementExplanation::NotWellFormed(malformed) => write!(f, "{malformed}"),
