@@ -437,8 +437,8 @@ def write(module):
         except Refused as error:
             raise Refused(f"{module.names.get(number, number)}: {error}") from error
     heads = [head(module, it, names, False) + ";" for it in numbers]
-    parts = data(module) if any("DATA" in it for it in texts) else []
-    return "\n".join([*parts, *heads, "", *(f"{it}\n" for it in texts)])
+    array = data(module) if any("DATA" in it for it in texts) else []
+    return "\n".join([*array, *heads, "", *(f"{it}\n" for it in texts)])
 
 
 def parts():

@@ -1,8 +1,8 @@
 /* looks: answers requests from standard input, one a line, for tools/test-c: each over a buffer of exactly the input's length.
 
-   len HEX, canonical HEX, item OFFSET HEX, member OFFSET KEY HEX, named OFFSET NAME-IN-HEX HEX, auth HEX, rewrite KIND ROOM HEX,
-   json KIND ROOM HEX, explain KIND ROOM HEX. `-` is no bytes. An answer to `rewrite` and `json` is the status, how many bytes
-   were read, the length and, in hexadecimal, the output if the status is 0, and `changed` if bytes after it changed; to `explain` the
+   len HEX, canonical HEX, item OFFSET HEX, member OFFSET KEY HEX, named OFFSET NAME-IN-HEX HEX, auth HEX, all OFFSET HEX (these six, with
+   some keys), rewrite KIND ROOM HEX, json KIND ROOM HEX, explain KIND ROOM HEX; with LOOKS_ALONE only the first seven. `-` is no bytes. An answer to `rewrite` and `json` is the status, how many bytes
+   were read, the length and, in hexadecimal, the output if the status is 0, and `changed` if bytes behind it changed; to `explain` the
    status, how many bytes were read, the offset and the length of what is refused, the length of the text and the text in hexadecimal. */
 #include <inttypes.h>
 #include <stdio.h>
@@ -16,6 +16,12 @@ typedef struct {
     size_t len;
 } buffer;
 
+static unsigned digit(char it) {
+    if (it >= '0' && it <= '9') return (unsigned)(it - '0');
+    if (it < 'a' || it > 'f') exit(2);
+    return (unsigned)(it - 'a') + 10;
+}
+
 /* A buffer of the bytes; one byte where there are none, since the pointer must not be null. */
 static buffer read_hex(const char *hex) {
     buffer it;
@@ -23,18 +29,61 @@ static buffer read_hex(const char *hex) {
     it.len = strcmp(hex, "-") == 0 ? 0 : strlen(hex) / 2;
     it.bytes = malloc(it.len ? it.len : 1);
     if (!it.bytes) exit(2);
-    for (k = 0; k < it.len; k++) {
-        unsigned int byte = 0;
-        if (sscanf(hex + 2 * k, "%2x", &byte) != 1) exit(2);
-        it.bytes[k] = (uint8_t)byte;
-    }
+    for (k = 0; k < it.len; k++) it.bytes[k] = (uint8_t)(digit(hex[2 * k]) * 16 + digit(hex[2 * k + 1]));
     return it;
 }
 
 static void print_item(puffgrit_bool found, const puffgrit_item *i) {
-    printf("%d %" PRIu64 " %zu %zu %zu %" PRIu32 "\n", found, i->number, i->from, i->content, i->end, i->kind);
+    printf("%d %" PRIu64 " %zu %zu %zu %" PRIu32, found, i->number, i->from, i->content, i->end, i->kind);
 }
 
+static void print_member(buffer it, size_t map, int64_t key) {
+    puffgrit_item item = {1, 2, 3, 4, 5};
+    puffgrit_bool found = puffgrit_member(it.bytes, it.len, map, key, &item);
+    print_item(found, &item);
+}
+
+static void print_named(buffer it, size_t map, buffer name) {
+    puffgrit_item item = {1, 2, 3, 4, 5};
+    puffgrit_bool found = puffgrit_named(it.bytes, it.len, map, name.bytes, name.len, &item);
+    print_item(found, &item);
+}
+
+static void print_item_at(buffer it, size_t offset) {
+    puffgrit_item item = {1, 2, 3, 4, 5};
+    puffgrit_bool found = puffgrit_item_at(it.bytes, it.len, offset, &item);
+    print_item(found, &item);
+}
+
+static void print_parts(buffer it) {
+    puffgrit_auth_data parts = {1, 2, 3, 4, 5, 6, 7, 8};
+    puffgrit_bool found = puffgrit_auth_parts(it.bytes, it.len, &parts);
+    printf("%d %zu %zu %zu %zu %zu %zu %" PRIu32 " %" PRIu32, found, parts.aaguid, parts.credential_id, parts.credential_id_len,
+        parts.public_key, parts.extensions, parts.end, parts.counter, parts.flags);
+}
+
+static void print_all(buffer it, size_t offset) {
+    static const int64_t keys[] = {1, 2, 3, -1, 24, INT64_MIN, INT64_MAX};
+    static const char *const names[] = {"id", "alg", "fmt", "\xff"};
+    size_t k;
+    printf("%zu %d ", puffgrit_item_len(it.bytes, it.len), puffgrit_is_canonical(it.bytes, it.len));
+    print_item_at(it, offset);
+    for (k = 0; k < sizeof keys / sizeof *keys; k++) {
+        putchar(' ');
+        print_member(it, k % 2 ? offset : 0, keys[k]);
+    }
+    for (k = 0; k < sizeof names / sizeof *names; k++) {
+        buffer name;
+        name.bytes = (uint8_t *)names[k];
+        name.len = strlen(names[k]);
+        putchar(' ');
+        print_named(it, k % 2 ? offset : 0, name);
+    }
+    putchar(' ');
+    print_parts(it);
+}
+
+#ifndef LOOKS_ALONE
 typedef uint32_t writes(uint32_t kind, const uint8_t *input, size_t input_len, size_t *read, uint8_t *out, size_t out_len, size_t *len);
 
 static uint8_t *unset(size_t room) {
@@ -44,12 +93,12 @@ static uint8_t *unset(size_t room) {
     return out;
 }
 
-/* Prints so many bytes of the output, and whether those after them changed. */
+/* Prints so many bytes of the output, and whether those behind them changed. */
 static void print_output(const uint8_t *out, size_t room, size_t len) {
     size_t k, same = 1;
     for (k = len; k < room; k++) same &= out[k] == 0xa5;
     for (k = 0; k < len && k < room; k++) printf("%02x", out[k]);
-    printf(same ? "\n" : "changed\n");
+    if (!same) printf("changed");
 }
 
 /* Writes into an output of exactly so many bytes. */
@@ -72,33 +121,32 @@ static void explain(uint32_t kind, size_t room, buffer input) {
     free(out);
 }
 
+#endif
+
 int main(void) {
     static char call[16], first[1 << 16], second[1 << 16], third[1 << 16];
     static char line[3 << 16];
     while (fgets(line, sizeof line, stdin)) {
         int words = sscanf(line, "%15s %65535s %65535s %65535s", call, first, second, third);
         buffer input = read_hex(words == 2 ? first : words == 3 ? second : third);
-        puffgrit_item item = {1, 2, 3, 4, 5};
-        puffgrit_auth_data parts = {1, 2, 3, 4, 5, 6, 7, 8};
         size_t offset = words > 2 ? (size_t)strtoull(first, 0, 10) : 0;
-        if (!strcmp(call, "len")) printf("%zu\n", puffgrit_item_len(input.bytes, input.len));
-        if (!strcmp(call, "canonical")) printf("%d\n", puffgrit_is_canonical(input.bytes, input.len));
-        if (!strcmp(call, "item")) print_item(puffgrit_item_at(input.bytes, input.len, offset, &item), &item);
-        if (!strcmp(call, "member"))
-            print_item(puffgrit_member(input.bytes, input.len, offset, (int64_t)strtoll(second, 0, 10), &item), &item);
+        if (!strcmp(call, "len")) printf("%zu", puffgrit_item_len(input.bytes, input.len));
+        if (!strcmp(call, "canonical")) printf("%d", puffgrit_is_canonical(input.bytes, input.len));
+        if (!strcmp(call, "item")) print_item_at(input, offset);
+        if (!strcmp(call, "member")) print_member(input, offset, (int64_t)strtoll(second, 0, 10));
         if (!strcmp(call, "named")) {
             buffer name = read_hex(second);
-            print_item(puffgrit_named(input.bytes, input.len, offset, name.bytes, name.len, &item), &item);
+            print_named(input, offset, name);
             free(name.bytes);
         }
-        if (!strcmp(call, "auth")) {
-            puffgrit_bool found = puffgrit_auth_parts(input.bytes, input.len, &parts);
-            printf("%d %zu %zu %zu %zu %zu %zu %" PRIu32 " %" PRIu32 "\n", found, parts.aaguid, parts.credential_id, parts.credential_id_len,
-                parts.public_key, parts.extensions, parts.end, parts.counter, parts.flags);
-        }
+        if (!strcmp(call, "auth")) print_parts(input);
+        if (!strcmp(call, "all")) print_all(input, offset);
+#ifndef LOOKS_ALONE
         if (!strcmp(call, "rewrite")) written(puffgrit_rewrite, (uint32_t)offset, (size_t)strtoull(second, 0, 10), input);
         if (!strcmp(call, "json")) written(puffgrit_json, (uint32_t)offset, (size_t)strtoull(second, 0, 10), input);
         if (!strcmp(call, "explain")) explain((uint32_t)offset, (size_t)strtoull(second, 0, 10), input);
+#endif
+        putchar('\n');
         free(input.bytes);
     }
     return 0;

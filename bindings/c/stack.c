@@ -1,5 +1,5 @@
 /* stack: prints how many bytes of stack calls take over 256 levels, more than over a number: puffgrit_is_canonical (check),
-   puffgrit_rewrite (rewrite), puffgrit_json and puffgrit_explain (show), and the others (look). */
+   puffgrit_rewrite (rewrite), puffgrit_json and puffgrit_explain (show), and the others (look); with LOOKS_ALONE only check and look. */
 #define _POSIX_C_SOURCE 200809L
 #include <pthread.h>
 #include <stdio.h>
@@ -13,7 +13,7 @@ enum { ROOM = 1 << 20, MARK = 0xa5, LEVELS = 256 };
 #define INFO "\xa3\x01\x81\x68" "FIDO_2_0" "\x03\x50" "0123456789abcdef" "\x18\x60"
 enum { FRONT = sizeof INFO - 1 };
 
-static uint8_t input[2 * LEVELS + 1], info[FRONT + 2 * LEVELS], output[8 * LEVELS], room[ROOM];
+static uint8_t input[2 * LEVELS + 1], info[FRONT + 2 * LEVELS], room[ROOM];
 static size_t input_len, info_len;
 
 static void *look(void *unused) {
@@ -34,6 +34,9 @@ static void *check(void *unused) {
     return 0;
 }
 
+#ifndef LOOKS_ALONE
+static uint8_t output[8 * LEVELS];
+
 static void *again(void *unused) {
     size_t read, len;
     (void)unused;
@@ -53,6 +56,8 @@ static void *show(void *unused) {
     return 0;
 }
 
+#endif
+
 /* The bytes of its stack that the thread wrote. */
 static size_t used(void *(*run)(void *)) {
     pthread_attr_t attributes;
@@ -67,8 +72,8 @@ static size_t used(void *(*run)(void *)) {
     return ROOM - untouched;
 }
 
-static void print_more(const char *calls, const char *what, size_t taken, size_t alone) {
-    printf("%s %s %lu\n", calls, what, taken > alone ? (unsigned long)(taken - alone) : 0ul);
+static void print_more(const char *name, const char *what, size_t taken, size_t alone) {
+    printf("%s %s %lu\n", name, what, taken > alone ? (unsigned long)(taken - alone) : 0ul);
 }
 
 /* The message around the input without its first bytes, which are a level that the message's map takes. */
@@ -77,22 +82,29 @@ static void fill_info(size_t first) {
     memcpy(info + FRONT, input + first, input_len - first);
 }
 
+static const struct {
+    const char *name;
+    void *(*run)(void *);
+} calls[] = {
+    {"look", look},
+    {"check", check},
+#ifndef LOOKS_ALONE
+    {"rewrite", again},
+    {"show", show},
+#endif
+};
+enum { CALLS = sizeof calls / sizeof *calls };
+
 static void over(const char *what, const uint8_t *level, size_t len) {
-    size_t k, look_alone, check_alone, again_alone, show_alone;
+    size_t k, alone[4];
     input_len = 1;
     fill_info(0);
-    look_alone = used(look);
-    check_alone = used(check);
-    again_alone = used(again);
-    show_alone = used(show);
+    for (k = 0; k < CALLS; k++) alone[k] = used(calls[k].run);
     for (k = 0; k < LEVELS; k++) memcpy(input + k * len, level, len);
     input_len = LEVELS * len + 1;
     input[input_len - 1] = 0;
     fill_info(len);
-    print_more("look", what, used(look), look_alone);
-    print_more("check", what, used(check), check_alone);
-    print_more("rewrite", what, used(again), again_alone);
-    print_more("show", what, used(show), show_alone);
+    for (k = 0; k < CALLS; k++) print_more(calls[k].name, what, used(calls[k].run), alone[k]);
 }
 
 int main(void) {

@@ -1,4 +1,5 @@
-// node --experimental-wasm-memory64 test.mjs DIR: the module in DIR over items whose answers come from RFC 8949 and WebAuthn Level 3.
+// node [--experimental-wasm-memory64] test.mjs MODULE: a module beside this file over items whose answers come from RFC 8949 and WebAuthn
+// Level 3.
 import assert from "node:assert/strict";
 import { readFileSync } from "node:fs";
 import { INDEFINITE, load } from "./puffgrit.mjs";
@@ -6,7 +7,7 @@ import { bytesOf, treeAt } from "./tree.mjs";
 import { NAMES } from "./names.mjs";
 
 const here = new URL(".", import.meta.url);
-const calls = await load(readFileSync(new URL("puffgrit.wasm", here)));
+const calls = await load(readFileSync(new URL(process.argv[2], here)));
 
 // the item's length, and whether the bytes are canonical (RFC 8949, section 3; CTAP 2.1, section 8)
 const items = [
@@ -22,6 +23,7 @@ for (const levels of [256, 257]) {
   const nested = new Uint8Array(levels + 1).fill(0x81);
   nested[levels] = 0;
   assert.equal(calls.itemLen(nested), levels === 256 ? 257 : 0);
+  assert.equal(calls.isCanonical(nested), levels === 256);
 }
 const large = new Uint8Array(1_000_005);
 large.set([0x5a, 0x00, 0x0f, 0x42, 0x40]);
