@@ -1,11 +1,20 @@
 //! Messages of CTAP2 and WebAuthn, decoded, checked and encoded again, and CBOR data items (RFC 8949)
 //! and authenticator data (WebAuthn Level 3, section 6.1), looked at in place, by proved code.
-//! `rewrite`, `json` and `explain` allocate, and free what they allocated.
+//!
+//! The calls that look are compiled from the C that this crate carries. With the feature `whole` all of
+//! libpuffgrit is linked, from the folder that `PUFFGRIT_PREFIX` names: then there are `rewrite`, `json`
+//! and `explain`, which allocate, and free what they allocated.
 #![no_std]
 
+#[cfg(feature = "whole")]
+mod decode;
+#[cfg(feature = "whole")]
 mod kind;
 
 use core::mem::MaybeUninit;
+#[cfg(feature = "whole")]
+pub use decode::*;
+#[cfg(feature = "whole")]
 pub use kind::Kind;
 
 /// A data item in bytes.
@@ -39,17 +48,6 @@ pub struct AuthData {
     pub flags: u32,
 }
 
-/// Which bytes of an input are refused.
-#[repr(C)]
-#[derive(Clone, Copy, Debug, Default, PartialEq, Eq)]
-pub struct Refusal {
-    /// The offset of the first byte: of a data item or a map key that is refused, or of where the bytes
-    /// aren't well-formed.
-    pub offset: usize,
-    /// Their number.
-    pub len: usize,
-}
-
 extern "C" {
     fn puffgrit_item_len(bytes: *const u8, len: usize) -> usize;
     fn puffgrit_is_canonical(bytes: *const u8, len: usize) -> bool;
@@ -57,58 +55,6 @@ extern "C" {
     fn puffgrit_member(bytes: *const u8, len: usize, map: usize, key: i64, value: *mut Item) -> bool;
     fn puffgrit_named(bytes: *const u8, len: usize, map: usize, name: *const u8, name_len: usize, value: *mut Item) -> bool;
     fn puffgrit_auth_parts(bytes: *const u8, len: usize, parts: *mut AuthData) -> bool;
-    fn puffgrit_rewrite(
-        kind: u32,
-        input: *const u8,
-        input_len: usize,
-        read: *mut usize,
-        out: *mut u8,
-        out_len: usize,
-        len: *mut usize,
-    ) -> u32;
-    fn puffgrit_json(
-        kind: u32,
-        input: *const u8,
-        input_len: usize,
-        read: *mut usize,
-        out: *mut u8,
-        out_len: usize,
-        len: *mut usize,
-    ) -> u32;
-    fn puffgrit_explain(
-        kind: u32,
-        input: *const u8,
-        input_len: usize,
-        read: *mut usize,
-        refusal: *mut Refusal,
-        out: *mut u8,
-        out_len: usize,
-        len: *mut usize,
-    ) -> u32;
-}
-
-/// What was decoded, and what was written of it.
-#[derive(Clone, Copy, Debug, PartialEq, Eq)]
-pub struct Lengths {
-    /// How many bytes of the input were decoded: those of the data item, the message or the
-    /// authenticator data at its beginning, or all of a JSON text.
-    pub read: usize,
-    /// How many bytes were written.
-    pub written: usize,
-}
-
-/// Why nothing was written.
-#[derive(Clone, Copy, Debug, PartialEq, Eq)]
-pub enum Error {
-    /// The encoding has this many bytes, for which the output is too short.
-    TooShort(usize),
-    /// An allocation failed.
-    OutOfMemory,
-    /// The call doesn't have this kind.
-    UnknownKind,
-    /// The input is rejected: the status of its first fault in puffgrit.h (`PUFFGRIT_FAULT_..`), and
-    /// the number of the member that it is about, or 0.
-    Rejected { fault: u8, member: u8 },
 }
 
 /// A key of a map: an integer or a text.
@@ -165,79 +111,6 @@ pub fn auth_parts(bytes: &[u8]) -> Option<AuthData> {
     written(|parts| unsafe { puffgrit_auth_parts(bytes.as_ptr(), bytes.len(), parts) })
 }
 
-/// Decodes the input as the kind, and writes its encoding to the beginning of the output: CTAP2's
-/// canonical form (CTAP 2.1, section 8), or compact JSON. Bytes after a data item, a message or
-/// authenticator data are ignored, and don't count as read.
-pub fn rewrite(kind: Kind, input: &[u8], out: &mut [u8]) -> Result<Lengths, Error> {
-    let (mut read, mut len) = (0, 0);
-    let (given, start, room) = (input.as_ptr(), out.as_mut_ptr(), out.len());
-    // SAFETY: as above, and no output overlaps another buffer.
-    let status = unsafe { puffgrit_rewrite(kind as u32, given, input.len(), &mut read, start, room, &mut len) };
-    lengths(status, read, len)
-}
-
-fn lengths(status: u32, read: usize, len: usize) -> Result<Lengths, Error> {
-    match status {
-        0 => Ok(Lengths { read, written: len }),
-        1 => Err(Error::TooShort(len)),
-        _ => Err(error(status)),
-    }
-}
-
-fn error(status: u32) -> Error {
-    match status {
-        2 => Error::OutOfMemory,
-        3 => Error::UnknownKind,
-        _ => Error::Rejected { fault: status as u8, member: (status >> 8) as u8 },
-    }
-}
-
-/// Decodes the input as the kind, and writes what is in it as compact JSON to the beginning of the
-/// output: members by their names, byte strings in base64url without padding.
-pub fn json(kind: Kind, input: &[u8], out: &mut [u8]) -> Result<Lengths, Error> {
-    let (mut read, mut len) = (0, 0);
-    let (given, start, room) = (input.as_ptr(), out.as_mut_ptr(), out.len());
-    // SAFETY: as for `rewrite`.
-    let status = unsafe { puffgrit_json(kind as u32, given, input.len(), &mut read, start, room, &mut len) };
-    lengths(status, read, len)
-}
-
-/// Why an input is rejected.
-#[derive(Clone, Copy, Debug, PartialEq, Eq)]
-pub struct Explanation<'a> {
-    /// The first fault: its status in puffgrit.h, and the number of the member that it is about, or 0.
-    pub fault: u8,
-    pub member: u8,
-    pub refusal: Refusal,
-    /// Where in the input and why, in ASCII; cut off where the output ends.
-    pub text: &'a str,
-}
-
-/// Whether an input is accepted.
-#[derive(Clone, Copy, Debug, PartialEq, Eq)]
-pub enum Verdict<'a> {
-    /// It is: so many of its bytes, as `Lengths::read`.
-    Accepted(usize),
-    Rejected(Explanation<'a>),
-}
-
-/// Explains why the input is rejected as the kind, with a text in the output. The kinds are those of
-/// bytes.
-pub fn explain<'a>(kind: Kind, input: &[u8], out: &'a mut [u8]) -> Result<Verdict<'a>, Error> {
-    let (mut read, mut len, mut refusal) = (0, 0, Refusal::default());
-    let (given, start, room) = (input.as_ptr(), out.as_mut_ptr(), out.len());
-    // SAFETY: as for `rewrite`.
-    let status = unsafe { puffgrit_explain(kind as u32, given, input.len(), &mut read, &mut refusal, start, room, &mut len) };
-    if status == 0 {
-        return Ok(Verdict::Accepted(read));
-    }
-    let Error::Rejected { fault, member } = error(status) else {
-        return Err(error(status));
-    };
-    let text = core::str::from_utf8(&out[..len.min(room)]).unwrap_or("");
-    Ok(Verdict::Rejected(Explanation { fault, member, refusal, text }))
-}
-
 #[cfg(test)]
 mod tests {
     use super::*;
@@ -251,34 +124,6 @@ mod tests {
         assert_eq!(member(&[0xa1, 0x20, 0x05], 0, Key::Number(-1)).map(|it| it.number), Some(5));
         assert_eq!(member(&[0xa1, 0x61, 0x61, 0x05], 0, Key::Name("a")).map(|it| it.from), Some(3));
         assert_eq!(member(&[0xa0], 0, Key::Name("a")), None);
-    }
-
-    #[test]
-    fn rewrites() {
-        let mut out = [0; 16];
-        assert_eq!(rewrite(Kind::Cbor, &[0x9f, 0x18, 0x01, 0xff, 0x00], &mut out), Ok(Lengths { read: 4, written: 2 }));
-        assert_eq!(out[..3], [0x81, 0x01, 0x00]);
-        assert_eq!(rewrite(Kind::Cbor, &[0x81, 0x01], &mut out[..1]), Err(Error::TooShort(2)));
-        assert_eq!(rewrite(Kind::GetAssertionRequest, &[0xa0], &mut out), Err(Error::Rejected { fault: 21, member: 1 }));
-        assert_eq!(rewrite(Kind::Request, b"{", &mut out), Err(Error::Rejected { fault: 26, member: 0 }));
-    }
-
-    #[test]
-    fn examines() {
-        let info = b"\xa2\x01\x81\x68FIDO_2_0\x03\x50\0\0\0\0\0\0\0\0\0\0\0\0\0\0\0\0";
-        let text = br#"{"versions":["FIDO_2_0"],"aaguid":"00000000-0000-0000-0000-000000000000"}"#;
-        let mut out = [0; 128];
-        assert_eq!(json(Kind::Info, info, &mut out), Ok(Lengths { read: info.len(), written: text.len() }));
-        assert_eq!(out[..text.len()], text[..]);
-        assert_eq!(explain(Kind::Request, b"{}", &mut out), Err(Error::UnknownKind));
-        assert_eq!(explain(Kind::Info, info, &mut out), Ok(Verdict::Accepted(info.len())));
-        assert_eq!(explain(Kind::Auth, &[0; 38], &mut out), Ok(Verdict::Accepted(37)));
-        for (given, fault, member, offset, len) in [(&info[..12], 16, 0, 12, 0), (b"\xa1\x01\x05", 20, 1, 2, 1)] {
-            let Ok(Verdict::Rejected(told)) = explain(Kind::Info, given, &mut out) else { panic!("accepted") };
-            assert_eq!((told.fault, told.member, told.refusal), (fault, member, Refusal { offset, len }));
-        }
-        let Ok(Verdict::Rejected(told)) = explain(Kind::Info, b"\xa1\x01\x05", &mut out) else { panic!("accepted") };
-        assert!(told.text.starts_with("versions: "));
     }
 
     #[test]
