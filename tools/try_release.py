@@ -1,0 +1,143 @@
+"""Uses what tools/release made as somebody has it who has neither the toolchain nor the network: each archive is unpacked or installed in a
+folder of its own, and prints the algorithms of bench/messages/info.hex."""
+
+import os
+import shutil
+import subprocess
+import sys
+import tarfile
+import tempfile
+import zipfile
+from pathlib import Path
+
+import copies
+import needs
+
+ROOT = Path(__file__).resolve().parent.parent
+INFO = ROOT / "bench" / "messages" / "info.hex"
+ALGORITHMS = "-7\n-8\n"
+
+JAVASCRIPT = """\
+import { readFileSync } from "node:fs";
+import puffgrit, { NEGATIVE } from "puffgrit";
+const bytes = new Uint8Array(Buffer.from(readFileSync(process.argv[2], "utf8").trim(), "hex"));
+const list = puffgrit.member(bytes, 0, 10);
+for (let at = list.content; at < list.end; at = puffgrit.itemAt(bytes, at).end) {
+  const algorithm = puffgrit.member(bytes, at, "alg");
+  console.log(String(algorithm.kind === NEGATIVE ? -1n - algorithm.number : algorithm.number));
+}
+"""
+
+RUST = """\
+use puffgrit::{item_at, member, Key};
+fn main() {
+    let text = std::fs::read_to_string(std::env::args().nth(1).unwrap()).unwrap();
+    let text = text.trim();
+    let bytes: Vec<u8> = (0..text.len()).step_by(2).map(|k| u8::from_str_radix(&text[k..k + 2], 16).unwrap()).collect();
+    let list = member(&bytes, 0, Key::Number(10)).unwrap();
+    let mut at = list.content;
+    while at < list.end {
+        let algorithm = member(&bytes, at, Key::Name("alg")).unwrap();
+        println!("{}", if algorithm.kind == 1 { -1 - algorithm.number as i64 } else { algorithm.number as i64 });
+        at = item_at(&bytes, at).unwrap().end;
+    }
+}
+"""
+CARGO = '[package]\nname = "user"\nversion = "0.1.0"\nedition = "2021"\n\n[dependencies]\npuffgrit = {{ path = "{crate}" }}\n'
+
+
+def run(words, folder, **more):
+    """What the command prints, without the toolchain on the path; its error if it fails."""
+    environment = {key: it for key, it in os.environ.items() if not key.startswith(("PYTHON", "PUFFGRIT"))}
+    environment |= {"PATH": os.environ["PATH"] if shutil.which("rt") is None else without_rt(), "PYTHONDONTWRITEBYTECODE": "1", **more}
+    done = subprocess.run([str(it) for it in words], cwd=folder, env=environment, stdin=INFO.open("rb"), capture_output=True, text=True, check=False)
+    return done.stdout if done.returncode == 0 else f"{words[0]} ended with {done.returncode}: {done.stderr[-400:]}"
+
+
+def without_rt():
+    """The path without the folders in which rt is."""
+    kept = [it for it in os.environ["PATH"].split(":") if not (Path(it) / "rt").exists()]
+    return ":".join([*kept, copies.WITHOUT_RT])
+
+
+def unpacked(archive, folder):
+    """The one folder in the archive."""
+    with tarfile.open(archive) as it:
+        it.extractall(folder, filter="data")
+    return next(it for it in folder.iterdir() if it.is_dir())
+
+
+def native(archive, folder):
+    """With the words of pkg-config, if it is there, and by the shared library; and with the static one."""
+    top = unpacked(archive, folder)
+    words = [f"-I{top}/include", f"-L{top}/lib", "-lpuffgrit"]
+    if shutil.which("pkg-config"):
+        words = run(["pkg-config", "--cflags", "--libs", "puffgrit"], folder, PKG_CONFIG_PATH=f"{top}/lib/pkgconfig").split()
+    source, made = ROOT / "bindings" / "c" / "algorithms.c", folder / "algorithms"
+    said = run([*needs.CC, source, *words, f"-Wl,-rpath,{top}/lib", "-o", made], folder) + run([made], folder)
+    return said if said != ALGORITHMS else run([*needs.CC, source, f"-I{top}/include", top / "lib" / "libpuffgrit.a", "-o", made], folder) + run([made], folder)
+
+
+def look(archive, folder):
+    top = unpacked(archive, folder)
+    made = folder / "algorithms"
+    words = [*needs.CC, "-std=c99", "-Wall", "-Wextra", "-pedantic", "-Werror", ROOT / "bindings" / "c" / "algorithms.c", top / "puffgrit_look.c", f"-I{top}", "-o", made]
+    return run(words, folder) + run([made], folder)
+
+
+def wheel(archive, folder):
+    """By pip in an environment of its own, or unpacked where there is no pip."""
+    # A copy, since Python looks for modules beside a script first.
+    script = Path(shutil.copy(ROOT / "bindings" / "python" / "algorithms.py", folder))
+    done = subprocess.run([sys.executable, "-m", "venv", folder / "venv"], capture_output=True, check=False)
+    python = folder / "venv" / "bin" / "python"
+    if done.returncode == 0 and "ended" not in run([python, "-m", "pip", "install", "--quiet", "--no-index", archive], folder):
+        return run([python, script], folder)
+    with zipfile.ZipFile(archive) as it:
+        it.extractall(folder / "site")
+    return run([sys.executable, script], folder, PYTHONPATH=str(folder / "site"))
+
+
+def npm(archive, folder):
+    if not shutil.which("node"):
+        return None
+    top = unpacked(archive, folder)
+    (folder / "node_modules").mkdir()
+    top.rename(folder / "node_modules" / "puffgrit")
+    (folder / "user.mjs").write_text(JAVASCRIPT, encoding="utf-8")
+    return run(["node", "user.mjs", INFO], folder)
+
+
+def crate(archive, folder):
+    if not shutil.which("cargo"):
+        return None
+    top = unpacked(archive, folder)
+    (folder / "user" / "src").mkdir(parents=True)
+    (folder / "user" / "src" / "main.rs").write_text(RUST, encoding="utf-8")
+    (folder / "user" / "Cargo.toml").write_text(CARGO.format(crate=top), encoding="utf-8")
+    return run(["cargo", "run", "--quiet", "--offline", "--", INFO], folder / "user", CARGO_HOME=str(folder / "home"))
+
+
+# How each archive is used, by what its name ends with or has in it.
+USES = {"-x86_64-linux.tar.gz": native, "puffgrit-look-": look, ".whl": wheel, ".tgz": npm, ".crate": crate}
+
+
+def run_all(archives):
+    """Yields each archive that was used, and whether it printed the algorithms; None if what it needs isn't installed."""
+    for archive in archives:
+        use = next((it for name, it in USES.items() if name in archive.name), None)
+        if use:
+            with tempfile.TemporaryDirectory() as name:
+                said = use(archive, Path(name))
+                if said not in (None, ALGORITHMS):
+                    print(f"tools/release: {archive.name}: {said}", file=sys.stderr)
+                yield archive, None if said is None else said == ALGORITHMS
+
+
+def try_all(archives):
+    """The status: 1 if an archive can't be used."""
+    status = 0
+    for archive, is_right in run_all(archives):
+        print(f"{archive.name}: {'not tried' if is_right is None else 'used' if is_right else 'WRONG'}", flush=True)
+        status |= is_right is False
+    return status
