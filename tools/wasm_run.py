@@ -218,7 +218,8 @@ class Maker:
         return [("block", kind), *self.value(kind, depth), *self.test(depth), ("br_if", 0), ("drop",), *self.value(kind, depth), ("end",)]
 
     def called(self, kind, depth):
-        callees = [k for k, it in enumerate(self.module.functions) if it.results == [kind]]
+        """A call of one of the first two functions, so that calls don't multiply."""
+        callees = [k for k, it in enumerate(self.module.functions[:2]) if it.results == [kind]]
         if not callees:
             return self.constant(kind)
         return [("local.get", 1), ("local.get", 0), *self.value(I32, depth), *self.value(I64, depth), ("call", self.chance.choice(callees))]
@@ -228,7 +229,7 @@ class Maker:
         if depth <= 0:
             return self.any(lambda: self.constant(kind), lambda: [("local.get", self.local(kind))])
         made = [self.binary, self.binary, self.load, self.converted, self.teed, self.chosen, self.result]
-        made += [self.called] * (self.chance.random() < 0.1)
+        made += [self.called] * (self.chance.random() < 0.2)
         return self.chance.choice(made)(kind, depth - 1) if kind == I64 or self.chance.random() < 0.7 else self.test(depth - 1)
 
     def set(self, depth):
@@ -266,11 +267,16 @@ class Maker:
         second = [("local.get", self.chance.randrange(2)), ("i64.const", self.chance.randrange(16)), ("i64.add",)] if name == "memory.copy" else self.value(I32, depth)
         return [*place, *second, ("i64.const", self.chance.randrange(32)), (name, 0, 0)]
 
+    def ignored(self, depth):
+        """A call for what it does to memory."""
+        kind = self.chance.choice([I32, I64])
+        return [*self.called(kind, depth), ("drop",)]
+
     def statement(self, depth):
         """Code that leaves nothing."""
         if depth <= 0:
             return self.any(lambda: self.set(0), lambda: self.store(0))
-        forms = [self.set, self.set, self.store, self.store, self.conditional, self.left, self.cases, self.moved]
+        forms = [self.set, self.set, self.store, self.store, self.conditional, self.left, self.cases, self.moved, self.ignored]
         forms += [self.rounds] * any(it not in self.counters for it in self.free)
         return [*self.chance.choice(forms)(depth - 1), *(self.statement(depth - 1) if self.chance.random() < 0.6 else [])]
 
