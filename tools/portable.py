@@ -47,7 +47,7 @@ def for_wasm(text, data_layout):
     text = re.sub(r"^target datalayout = .*$", lambda _: data_layout, text, flags=re.MULTILINE)
     text = re.sub(r"^target triple = .*$", f'target triple = "{TARGET}"', text, flags=re.MULTILINE)
     text = re.sub(OF_X86, "", text)
-    left = re.search(r"@llvm\.(?:x86|aarch64)[\w.]+|^@\S+ = (?:\w+ )*global .*$", text, re.MULTILINE)
+    left = re.search(r'@llvm\.(?:x86|aarch64)[\w.]+|^@(?:"[^"]*"|\S+) = (?:\w+ )*global .*$', text, re.MULTILINE)
     expect(not left, f"the bitcode has {left and left[0][:100]}")
     return text
 
