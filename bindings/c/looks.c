@@ -1,8 +1,9 @@
 /* looks: answers requests from standard input, one a line, for tools/test-c: each over a buffer of exactly the input's length.
 
-   len HEX, canonical HEX, item OFFSET HEX, member OFFSET KEY HEX, named OFFSET NAME-IN-HEX HEX, auth HEX, all OFFSET HEX (these six, with
-   some keys), rewrite KIND ROOM HEX, json KIND ROOM HEX, explain KIND ROOM HEX; with LOOKS_ALONE only the first seven. `-` is no bytes. An answer to `rewrite` and `json` is the status, how many bytes
-   were read, the length and, in hexadecimal, the output if the status is 0, and `changed` if bytes behind it changed; to `explain` the
+   len HEX, canonical HEX, item OFFSET HEX, member OFFSET KEY HEX, named OFFSET NAME-IN-HEX HEX, auth HEX, all OFFSET HEX (these six,
+   with some keys), rewrite KIND ROOM HEX, json KIND ROOM HEX, explain KIND ROOM HEX; with LOOKS_ALONE only the first seven. `-` is no
+   bytes. An answer to `rewrite` and `json` is the status, how many bytes were read, the length and, in hexadecimal, the output if the
+   status is 0, and `changed` if bytes after it changed; to `explain` the
    status, how many bytes were read, the offset and the length of what is refused, the length of the text and the text in hexadecimal. */
 #include <inttypes.h>
 #include <stdio.h>
@@ -93,7 +94,7 @@ static uint8_t *unset(size_t room) {
     return out;
 }
 
-/* Prints so many bytes of the output, and whether those behind them changed. */
+/* Prints so many bytes of the output, and whether those after them changed. */
 static void print_output(const uint8_t *out, size_t room, size_t len) {
     size_t k, same = 1;
     for (k = len; k < room; k++) same &= out[k] == 0xa5;
