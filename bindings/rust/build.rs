@@ -27,15 +27,22 @@ fn variable(name: &str) -> String {
     env::var(name).unwrap_or_else(|_| panic!("{name} isn't set"))
 }
 
+/// The words of a variable, or else of this text.
+fn words(name: &str, otherwise: &str) -> Vec<String> {
+    let text = env::var(name).unwrap_or_else(|_| otherwise.into());
+    text.split_whitespace().map(String::from).collect()
+}
+
 fn compile(c: &Path, out: &Path) {
     let source = [c.join("puffgrit_look.c"), c.join("portable/puffgrit_look.c")].into_iter().find(|it| it.is_file()).expect("puffgrit_look.c");
     println!("cargo:rerun-if-changed={}", source.display());
     let (object, archive) = (out.join("puffgrit_look.o"), out.join("libpuffgrit_look.a"));
-    let flags = env::var("CFLAGS").unwrap_or_default();
-    let compiler = env::var("CC").unwrap_or_else(|_| "cc".into());
-    run(Command::new(compiler).args(["-std=c99", "-O2", "-fPIC", "-c", "-I"]).arg(c).args(flags.split_whitespace()).arg(source).arg("-o").arg(&object));
+    let (compiler, flags) = (words("CC", "cc"), words("CFLAGS", ""));
+    let mut command = Command::new(&compiler[0]);
+    command.args(&compiler[1..]).args(["-std=c99", "-O2", "-fPIC", "-c", "-I"]).arg(c).args(flags).arg(source).arg("-o").arg(&object);
+    run(&mut command);
     let _ = std::fs::remove_file(&archive);
-    run(Command::new(env::var("AR").unwrap_or_else(|_| "ar".into())).arg("crs").arg(&archive).arg(&object));
+    run(Command::new(&words("AR", "ar")[0]).arg("crs").arg(&archive).arg(&object));
     println!("cargo:rustc-link-search=native={}", out.display());
     println!("cargo:rustc-link-lib=static=puffgrit_look");
 }
