@@ -82,7 +82,8 @@ pub record Accepted (s : Shape) {A : Type 0} (read : Member → Result A Fault) 
 
 -- always encoded
 abbrev always : {M P : Type 0} (n : ℕ) (name : List ℕ) (c : Coded M) (s : Shape)
-    (read : Member → Result M Fault) → Accepted s read → ((x : M) (d : Data) → ReadsBack c.kind x d → read (under name (Some d)) ≡ Ok x) → (P → M)
+    (read : Member → Result M Fault) → Accepted s read
+    → ((x : M) (d : Data) → ReadsBack c.kind x d → read (under name (Some d)) ≡ Ok x) → (P → M)
     → (M → P → P) → JsonMember P
 always {M} n name c s read a back get set = record {
   Value = M;
