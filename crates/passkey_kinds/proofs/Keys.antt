@@ -1,7 +1,6 @@
 -- The rows that names and map keys name.
-use Rattle.passkey_kinds.proofs.Common.{named_as, IsEncodedAt, CursorState, LooksOnce, Spends, Further, Onward, sym, nat_tests, find, bytes_eq, ◌≡◌, ◌∙◌, ◌<◌, ◌==◌, ℕ, arith, zero, suc, Bool, true, ◌+◌, List, [], ◌∷◌, ◌++◌, length, map, take, drop, set, get_or, Bor, add-one, Option, Some, None, cond, nat_lt, slice_get, refl, ap, cases_lt, eqb-true, length-map, map_push, take_more_set, Item, scalar_in, naming_of, IfSome, entry_of, Row, Entry, row, wrong, row_or_unknown, names, position, position_or_len, take-suc, slice_get_past, row_at, row_named, both_names, append_assoc, length-append, option_or, lt-ltb, ◌⊎◌, inl, inr, ◌*◌, ◌≤◌, not, false, ◌||◌}
-use Rattle.std.specs.Prelude.{IfNone, ◌/◌}
-use Rattle.std.proofs.lemmas.List.{length-set}
+use Rattle.passkey_kinds.proofs.Common.{named_as, IsEncodedAt, CursorState, LooksOnce, Spends, Further, Onward, sym, nat_tests, find, bytes_eq, ◌≡◌, ◌∙◌, ◌<◌, ◌==◌, ℕ, arith, zero, suc, Bool, true, ◌+◌, List, [], ◌∷◌, ◌++◌, length, map, take, drop, set, get_or, Bor, add-one, Option, Some, None, cond, nat_lt, slice_get, refl, ap, cases_lt, eqb-true, length-map, map_push, take_more_set, Item, scalar_in, naming_of, IfSome, entry_of, Row, Entry, row, wrong, row_or_unknown, names, position, position_or_len, take-suc, slice_get_past, row_at, row_named, both_names, append_assoc, length-append, option_or}
+use Rattle.std.specs.Prelude.{IfNone}
 use Rattle.passkey_kinds.specs.RecordReading.{ReadsKey, FindsRow, LooksTwice}
 use Rattle.passkey_kinds.proofs.Lent.{missed_spends}
 use Rattle.passkey_kinds.proofs.Cursor.{further_from, stands_back}
@@ -50,6 +49,15 @@ pub found_behind : (n m k : ℕ) (es : List Entry)
 found_behind n m zero es h = h
 found_behind n m (suc k) [] h = h
 found_behind n m (suc k) (e ∷ es) h = grind (arith, eqb-true, found_number, found_behind n m k es h)
+
+-- ---- a row at an index
+
+pub found_at : (n k : ℕ) (rows : List Row) (r : Row) → k < length rows → r ≡ get_or rows k r
+    → (entry_of r).number ≡ n
+    → row_or_unknown (find (λ (e : Entry). e.number == n) (map entry_of rows)) ≡ row n
+found_at n k [] r h g e = grind (arith)
+found_at n zero (x ∷ rows) r h g e = grind (arith, eqb-true)
+found_at n (suc k) (x ∷ rows) r h g e = grind (arith, eqb-true, found_number, found_at n k rows r)
 
 -- ---- the rows' names, one after the other
 

@@ -9,7 +9,7 @@ pub use Rattle.passkey_kinds.proofs.Levels.{record_within, back_if_few, back_if_
 pub use Rattle.passkey_kinds.proofs.Common.{CountsHeads, counts_then, counts_more}
 pub use Rattle.passkey_kinds.proofs.Cursor.{array_flat, map_flat, further_from, further_again, further_on, further_counted, further_twice, further_ok, skip_further, skipped_further, head_moves, eased, stands_back, onward_of, head_spends, stands_long, stands_again, spends_again, onward_then, on_ok, fails_as, ok_ends, ends_ok, named_text, no_text, failed, null_item, other_item, no_aaguid, scalar_read, scalar_moves, scalar_ends, scalar_decodes, below_scalar, truth_scalar, size_scalar, array_opened, map_opened, parts_open}
 pub use Rattle.passkey_kinds.proofs.Keeping.{record_keeps}
-pub use Rattle.passkey_kinds.proofs.Keys.{found_behind, not_wrong, names_found, names_other, number_then, stands_twice, twice_spends, further_some, key_ends}
+pub use Rattle.passkey_kinds.proofs.Keys.{found_at, found_behind, not_wrong, names_found, names_other, number_then, stands_twice, twice_spends, further_some, key_ends}
 pub use Rattle.passkey_kinds.proofs.Lawful.{IsLawful, lawful, raised, IsLawfulAs, descriptor_law, parameters_law, user_law}
 pub use Rattle.passkey_kinds.proofs.Loops.{EachTo, next_is, one_spare, spent_within, some_are, one_more_done, each_done, at_least, kept_pairs, kept_record, cost_by_le, key_spent, member_spent}
 pub use Rattle.passkey_kinds.proofs.Members.{members_are, key_names, goes_on, fails, all_read, reads_from, no_record, held_answers, held_ok, sets_put}

@@ -1,5 +1,5 @@
 //! The rows of a table, by number and name.
-ghost use Rattle.std.specs.Prelude.{◌≡◌, ◌==◌, map};
+ghost use Rattle.std.specs.Prelude.{◌≡◌, ◌==◌, None, map};
 ghost use Rattle.std.specs.List.{find};
 ghost use Rattle.std.specs.Str.{bytes_eq};
 ghost use Rattle.passkey_kinds.specs.Words.{item_of, named_as, naming_of, entry_of, names, row_named, row_or_unknown, number_names};
@@ -79,9 +79,20 @@ fn numbered(rows: &[Row], number: u8) -> Named
     Named::Unknown
 }
 
-/// Finds the row with this number. Tables are in the order of their numbers and leave few out, so a
-/// row is rarely far before the index that is its number.
+/// Finds the row with this number. Tables are in the order of their numbers, which begin with 1 and
+/// leave few out, so a row is rarely far before the index that is its number.
 fn with_number(rows: &[Row], number: u8) -> Named
+    ensures { named_as result ≡ row_or_unknown (find (λ e. e.number == number) (map entry_of rows.now)) }
+{
+    match rows.get(usize::from(number).saturating_sub(1)) {
+        Some(row) if row.number() == number => Named::Row(number),
+        _ => with_number_near(rows, number),
+    }
+}
+
+// Not inlined, since in most tables a row's index is its number, less one.
+#[inline(never)]
+fn with_number_near(rows: &[Row], number: u8) -> Named
     ensures { named_as result ≡ row_or_unknown (find (λ e. e.number == number) (map entry_of rows.now)) }
 {
     let near = usize::from(number).saturating_sub(4).min(rows.len());
@@ -106,11 +117,15 @@ pub(crate) fn with_name(rows: &[Row], name: &[u8]) -> Named
 
 // By itself, so that no row's other name is looked at before all own names were.
 fn with_other_name(rows: &[Row], name: &[u8]) -> Named
+    requires { find (λ e. bytes_eq e.name name.now) (map entry_of rows.now) ≡ None }
     ensures { named_as result ≡ row_or_unknown (find (λ e. bytes_eq e.other name.now) (map entry_of rows.now)) }
 {
     for row in rows {
-        if row.other_name().as_bytes() == name {
-            return Named::Row(row.number());
+        match row {
+            Row::Aliased(number, _, other) if other.as_bytes() == name => return Named::Row(
+                *number,
+            ),
+            _ => {}
         }
     }
     Named::Unknown
