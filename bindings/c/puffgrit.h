@@ -218,6 +218,13 @@ puffgrit_bool puffgrit_member(const uint8_t *bytes, size_t bytes_len, size_t map
    member, or the name isn't UTF-8. The key may be encoded in any way. */
 puffgrit_bool puffgrit_named(const uint8_t *bytes, size_t bytes_len, size_t map, const uint8_t *name, size_t name_len, puffgrit_item *value);
 
+/* Returns whether the bytes begin as the client data that a client writes for this type (webauthn.create or
+   webauthn.get), these bytes of the challenge, this origin and this top origin, which is empty unless the ceremony is in
+   a frame of another origin. Other members may follow. If the top origin isn't required, clients of WebAuthn Level 2,
+   which don't write it, pass too. JSON isn't parsed. Returns false if a string isn't UTF-8. (WebAuthn Level 3, section
+   5.8.1.2.) */
+puffgrit_bool puffgrit_is_client_data(const uint8_t *bytes, size_t bytes_len, const uint8_t *ty, size_t ty_len, const uint8_t *challenge, size_t challenge_len, const uint8_t *origin, size_t origin_len, const uint8_t *top_origin, size_t top_origin_len, puffgrit_bool requires_top_origin);
+
 /* Writes the parts of the authenticator data at the beginning of the bytes into parts and returns true. Returns false,
    and leaves parts as it was, if a part that the flags announce is cut off, or isn't a well-formed map of at most 256
    levels where one belongs. Bytes after the last part are ignored. Neither reserved flags nor the members of the maps

@@ -1,5 +1,5 @@
-//! Tests of `passkey_cbor`, `passkey_bytes`, `passkey_cose`, `passkey_core`, `passkey_webauthn` and
-//! `passkey_tpm`: values from the standards, printed texts, and calls that need memory.
+//! Tests of `passkey_cbor`, `passkey_bytes`, `passkey_cose`, `passkey_core`, `passkey_view`,
+//! `passkey_webauthn` and `passkey_tpm`: values from the standards, printed texts, and calls that need memory.
 #![tactic(auto)]
 
 #[cfg(test)]
@@ -8,6 +8,8 @@ mod authenticator_data;
 mod base64;
 #[cfg(test)]
 mod checks;
+#[cfg(test)]
+mod client_data;
 #[cfg(test)]
 mod containers;
 #[cfg(test)]

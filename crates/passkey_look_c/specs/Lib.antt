@@ -1,2 +1,3 @@
 pub mod AuthData
+pub mod ClientData
 pub mod Items

@@ -1,3 +1,4 @@
+pub mod Prefixes
 pub mod Placed
 pub mod Keys
 pub mod Walking

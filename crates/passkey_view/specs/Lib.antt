@@ -1,3 +1,4 @@
+pub mod ClientData
 pub mod DataView
 pub mod ItemView
 pub mod Member
