@@ -1,6 +1,7 @@
 //! Refusals as a person reads them.
-ghost use Rattle.std.specs.Prelude.{Some};
-ghost use Rattle.passkey_explain_data.specs.Texts.{part_name, statement_blame_text, statement_explanation_text, statement_text};
+ghost use Rattle.std.specs.Fmt.{WritesOnOk};
+ghost use Rattle.std.specs.Prelude.{◌≡◌, Some, map, option_map};
+ghost use Rattle.passkey_explain_data.specs.Texts.{data_reason_text, data_refusal_text, has_parameter, key_refusal_text, label_fault_text, label_name, label_text, part_name, statement_blame_text, statement_explanation_text, statement_text, value_fault_text};
 
 use crate::{
     DataPart, DataReason, DataRefusal, KeyBlame, KeyRefusal, StatementBlame, StatementExplanation,
@@ -11,19 +12,35 @@ use passkey_cose::CoseError;
 use passkey_explain::parameter_name;
 use std::fmt;
 
+/// Returns the name of a parameter of a key of this type.
+#[tactic(auto, unfolding(crate::specs::Texts::label_name))]
+fn label_name(key_type: Option<i64>, label: i64) -> Option<&'static str>
+    ensures { option_map (λ s. s.now) result ≡ label_name key_type label }
+{
+    let label = Value::from(label);
+    match key_type {
+        Some(number) => parameter_name(Some(&Value::from(number)), &label),
+        None => parameter_name(None, &label),
+    }
+}
+
 fn write_label<W: fmt::Write>(
     f: &mut fmt::Formatter<W>,
     key_type: Option<i64>,
     label: i64,
-) -> fmt::Result {
-    match parameter_name(key_type.map(Value::from).as_ref(), &Value::from(label)) {
+) -> fmt::Result
+    ensures { WritesOnOk W.write_str_gives f.old result (label_text key_type label) f.new }
+{
+    match label_name(key_type, label) {
         Some(name) => f.write_str(name),
         None => write!(f, "label {label}"),
     }
 }
 
 /// Returns why a label is refused that is no integer of 64 signed bits.
-fn label_reason(fault: CoseError) -> &'static str {
+fn label_reason(fault: CoseError) -> &'static str
+    ensures { result.now ≡ label_fault_text fault }
+{
     match fault {
         CoseError::DuplicateMapKey => "a label is repeated",
         CoseError::OutOfRangeIntegerValue => "a label has more than 64 signed bits",
@@ -32,7 +49,9 @@ fn label_reason(fault: CoseError) -> &'static str {
 }
 
 /// Returns why the value under one of the labels 1 to 5 is refused.
-fn value_reason(fault: CoseError, key_type: Option<i64>, label: i64) -> &'static str {
+fn value_reason(fault: CoseError, key_type: Option<i64>, label: i64) -> &'static str
+    ensures { result.now ≡ value_fault_text fault key_type label }
+{
     match (fault, label) {
         (CoseError::OutOfRangeIntegerValue, _) => "an integer of 64 signed bits is wanted",
         (_, 1) if key_type == Some(0) => "this key type is reserved",
@@ -43,7 +62,9 @@ fn value_reason(fault: CoseError, key_type: Option<i64>, label: i64) -> &'static
 }
 
 /// Returns whether the refusal begins with the name of a parameter.
-fn names_parameter(refusal: &KeyRefusal) -> bool {
+fn names_parameter(refusal: &KeyRefusal) -> bool
+    ensures { result ≡ has_parameter refusal.now.blame }
+{
     matches!(
         refusal.blame,
         KeyBlame::Label(_, Some(_)) | KeyBlame::Value(_, Some(_))
@@ -51,6 +72,8 @@ fn names_parameter(refusal: &KeyRefusal) -> bool {
 }
 
 impl fmt::Display for KeyRefusal {
+    ghost output = { λ refusal. Some (key_refusal_text refusal) };
+
     fn fmt<W: fmt::Write>(&self, f: &mut fmt::Formatter<W>) -> fmt::Result {
         match self.blame {
             KeyBlame::NotAMap => f.write_str("a map is wanted"),
@@ -90,6 +113,8 @@ impl fmt::Display for DataPart {
 }
 
 impl fmt::Display for DataReason {
+    ghost output = { λ reason. Some (data_reason_text reason) };
+
     fn fmt<W: fmt::Write>(&self, f: &mut fmt::Formatter<W>) -> fmt::Result {
         match self {
             DataReason::CutOff => f.write_str(": the bytes end before this part does"),
@@ -104,18 +129,14 @@ impl fmt::Display for DataReason {
 }
 
 impl fmt::Display for DataRefusal {
+    ghost output = { λ refusal. Some (data_refusal_text refusal) };
+
     fn fmt<W: fmt::Write>(&self, f: &mut fmt::Formatter<W>) -> fmt::Result {
         write!(f, "{}{}", self.part, self.reason)?;
         match self.reason {
             DataReason::NotWellFormed(malformed) => write!(f, " (offset {})", malformed.offset),
-            DataReason::Key(_, extent) => {
-                write!(f, " (offset {}, length {})", extent.offset, extent.len)
-            }
-            _ => write!(
-                f,
-                " (offset {}, length {})",
-                self.extent.offset, self.extent.len
-            ),
+            DataReason::Key(_, extent) => write!(f, " {extent}"),
+            _ => write!(f, " {}", self.extent),
         }
     }
 }

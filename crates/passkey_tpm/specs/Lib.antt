@@ -4,3 +4,4 @@ pub mod CertInfo
 pub mod Scheme
 pub mod PubArea
 pub mod Laws
+pub mod Texts

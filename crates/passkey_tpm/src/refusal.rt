@@ -1,6 +1,7 @@
 //! Where and why bytes aren't a structure of a TPM.
-ghost use Rattle.std.specs.Prelude.{◌≡◌};
+ghost use Rattle.std.specs.Prelude.{◌≡◌, Some};
 ghost use Rattle.passkey_tpm.specs.Parts.{refusal_of};
+ghost use Rattle.passkey_tpm.specs.Texts.{field_name, reason_text, refusal_text, wanted_text};
 
 use std::fmt;
 
@@ -115,6 +116,8 @@ pub(crate) fn refusal_of(len: usize, stop: Stop) -> TpmRefusal
 }
 
 impl fmt::Display for TpmField {
+    ghost output = { λ field. Some (field_name field) };
+
     fn fmt<W: fmt::Write>(&self, f: &mut fmt::Formatter<W>) -> fmt::Result {
         f.write_str(match self {
             TpmField::Magic => "magic",
@@ -149,7 +152,9 @@ impl fmt::Display for TpmField {
 }
 
 /// Returns what is wanted in the field.
-fn wanted(field: TpmField) -> &'static str {
+fn wanted(field: TpmField) -> &'static str
+    ensures { result.now ≡ wanted_text field }
+{
     match field {
         TpmField::Magic => "TPM_GENERATED_VALUE (ff544347) is wanted",
         TpmField::AttestType => "TPM_ST_ATTEST_CERTIFY (8017) is wanted",
@@ -159,13 +164,22 @@ fn wanted(field: TpmField) -> &'static str {
     }
 }
 
+/// Returns why the field is refused.
+fn why(reason: TpmReason, field: TpmField) -> &'static str
+    ensures { result.now ≡ reason_text reason field }
+{
+    match reason {
+        TpmReason::CutOff => "the bytes end before this field does",
+        TpmReason::OtherConstant | TpmReason::Unknown => wanted(field),
+        TpmReason::BytesFollow => "no bytes may follow the last field",
+    }
+}
+
 impl fmt::Display for TpmRefusal {
+    ghost output = { λ refusal. Some (refusal_text refusal) };
+
     fn fmt<W: fmt::Write>(&self, f: &mut fmt::Formatter<W>) -> fmt::Result {
-        let why = match self.reason {
-            TpmReason::CutOff => "the bytes end before this field does",
-            TpmReason::OtherConstant | TpmReason::Unknown => wanted(self.field),
-            TpmReason::BytesFollow => "no bytes may follow the last field",
-        };
+        let why = why(self.reason, self.field);
         write!(
             f,
             "{}: {why} (offset {}, length {})",
