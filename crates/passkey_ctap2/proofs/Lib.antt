@@ -1,3 +1,4 @@
+pub mod Messages
 pub mod MakeMessages
 pub mod GetMessages
 pub mod GetInfos

@@ -1,11 +1,11 @@
 -- authenticatorGetAssertion requests and their options (CTAP 2.1, section 6.2).
-use Rattle.std.specs.Prelude.{[], ◌∷◌, true, false, codes, ℕ, nat_le, Bool, List, Option, None, Result, option_map}
+use Rattle.std.specs.Prelude.{[], ◌∷◌, true, false, codes, ℕ, List, Option, None, option_map}
 use Rattle.passkey_extensions.specs.GetExtensions.{GetExtensionsParts, get_extensions_coded, get_extensions_parts, get_extensions_kept}
 use Rattle.passkey_ctap2.specs.declared.get_assertion.options.Options.{Options}
 use Rattle.passkey_ctap2.specs.declared.get_assertion.request.Request.{Request}
 use Rattle.passkey_kinds.specs.Coded.{truth, byte, text, bytes, accepted_of, plain}
-use Rattle.passkey_kinds.specs.Words.{kept_if_some, PlainTable, default_as, depth, max_depth, Item, Placed, required_at, default_at, optional_at, tolerated_at, places_of, EachFits, descriptor, Fields, fields_with, read_item, record_tree, PublicKeyCredentialDescriptor}
-use Rattle.passkey_kinds.specs.declared.fault.Fault.{Fault}
+use Rattle.passkey_kinds.specs.Numbered.{numbered_fields}
+use Rattle.passkey_kinds.specs.Words.{kept_if_some, PlainTable, plain_tree, default_as, Item, required_at, default_at, optional_at, tolerated_at, descriptor, Fields, PublicKeyCredentialDescriptor}
 
 -- ---- options of authenticatorGetAssertion requests (CTAP 2.1, section 6.2)
 
@@ -43,46 +43,35 @@ get_request_parts r = record {
   pin_protocol = r.pin_protocol;
 }
 
-abbrev pub get_request_members : List (Placed GetRequestParts)
-get_request_members =
-    required_at 1 (codes "rpId") text (λ r. r.rp_id) (λ x r. record r { rp_id = x })
-    ∷ required_at 2 (codes "clientDataHash") bytes (λ r. r.client_data_hash) (λ x r. record r { client_data_hash = x })
-    ∷ tolerated_at 3 (codes "allowList") (accepted_of (plain descriptor)) (λ r. r.allow_list)
-    (λ x r. record r { allow_list = x })
-    ∷ tolerated_at 4 (codes "extensions") get_extensions_coded (λ r. r.extensions) (λ x r. record r { extensions = x })
-    ∷ default_at 5 (codes "options") (plain options) (λ r. r.options) (λ x r. record r { options = x })
-    ∷ optional_at 6 (codes "pinAuth") bytes (λ r. r.pin_auth) (λ x r. record r { pin_auth = x })
-    ∷ optional_at 7 (codes "pinProtocol") byte (λ r. r.pin_protocol) (λ x r. record r { pin_protocol = x })
-    ∷ []
+abbrev pub get_request : PlainTable GetRequestParts
+get_request = record {
+  blank = record {
+    rp_id = [];
+    client_data_hash = [];
+    allow_list = None;
+    extensions = None;
+    options = options_default;
+    pin_auth = None;
+    pin_protocol = None;
+  };
+  members = required_at 1 (codes "rpId") text (λ r. r.rp_id) (λ x r. record r { rp_id = x })
+      ∷ required_at 2 (codes "clientDataHash") bytes (λ r. r.client_data_hash) (λ x r. record r { client_data_hash = x })
+      ∷ tolerated_at 3 (codes "allowList") (accepted_of (plain descriptor)) (λ r. r.allow_list)
+      (λ x r. record r { allow_list = x })
+      ∷ tolerated_at 4 (codes "extensions") get_extensions_coded (λ r. r.extensions) (λ x r. record r { extensions = x })
+      ∷ default_at 5 (codes "options") (plain options) (λ r. r.options) (λ x r. record r { options = x })
+      ∷ optional_at 6 (codes "pinAuth") bytes (λ r. r.pin_auth) (λ x r. record r { pin_auth = x })
+      ∷ optional_at 7 (codes "pinProtocol") byte (λ r. r.pin_protocol) (λ x r. record r { pin_protocol = x })
+      ∷ [];
+}
 
+-- how a request is decoded
 abbrev pub get_request_fields : Fields GetRequestParts
-get_request_fields = fields_with true (record {
-  rp_id = [];
-  client_data_hash = [];
-  allow_list = None;
-  extensions = None;
-  options = options_default;
-  pin_auth = None;
-  pin_protocol = None;
-}) get_request_members
+get_request_fields = numbered_fields get_request
 
--- the request that a data item decodes to, or its first fault
-abbrev pub read_get_request : Item → Result GetRequestParts Fault
-read_get_request = read_item get_request_fields
-
--- ---- the encoding of a request
-
+-- the data item that a request is encoded as, and what it keeps undecoded of it
 abbrev pub get_request_tree : GetRequestParts → Item
-get_request_tree r = record_tree (places_of get_request_members r)
+get_request_tree = plain_tree get_request
 
--- the data item that a request keeps undecoded, if there is one
 abbrev pub get_request_kept : GetRequestParts → List Item
 get_request_kept r = kept_if_some get_extensions_kept r.extensions
-
--- what holds of every request
-abbrev pub GetRequestFits : GetRequestParts → Type 0
-GetRequestFits = EachFits get_request_members
-
--- the encoding has at most `max_depth` nesting levels, so it can be decoded again
-abbrev pub is_get_request_coherent : GetRequestParts → Bool
-is_get_request_coherent r = nat_le (depth (get_request_tree r)) max_depth

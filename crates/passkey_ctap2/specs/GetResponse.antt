@@ -1,8 +1,8 @@
 -- authenticatorGetAssertion responses (CTAP 2.1, section 6.2).
-use Rattle.std.specs.Prelude.{ℕ, nat_le, Bool, true, ◌&&◌, List, [], ◌∷◌, Option, None, codes, Result, replicate}
-use Rattle.passkey_kinds.specs.Words.{depth, max_depth, Item, is_coherent, normal_data, DataParts, bare_data, Placed, required_at, optional_at, places_of, EachFits, descriptor, Fields, fields_with, read_item, record_tree, PublicKeyCredentialDescriptor, data_parts}
+use Rattle.std.specs.Prelude.{ℕ, Bool, ◌&&◌, List, [], ◌∷◌, Option, None, codes, replicate}
+use Rattle.passkey_kinds.specs.Numbered.{is_shallow, numbered_fields}
+use Rattle.passkey_kinds.specs.Words.{Item, is_coherent, normal_data, DataParts, bare_data, PlainTable, plain_tree, required_at, optional_at, descriptor, Fields, PublicKeyCredentialDescriptor, data_parts}
 use Rattle.passkey_kinds.specs.Coded.{truth, byte, bytes, authenticator_data, plain}
-use Rattle.passkey_kinds.specs.declared.fault.Fault.{Fault}
 use Rattle.passkey_extensions.specs.Entities.{user}
 use Rattle.passkey_extensions.specs.declared.user.PublicKeyCredentialUserEntity.{PublicKeyCredentialUserEntity}
 use Rattle.passkey_extensions.specs.Prf.{get_assertion_prf, unsigned}
@@ -33,52 +33,42 @@ get_response_parts r = record {
   unsigned_extension_outputs = r.unsigned_extension_outputs;
 }
 
-abbrev pub get_response_members : List (Placed GetResponseParts)
-get_response_members =
-    optional_at 1 (codes "credential") (plain descriptor) (λ r. r.credential) (λ x r. record r { credential = x })
-    ∷ required_at 2 (codes "authData") authenticator_data (λ r. r.auth_data) (λ x r. record r { auth_data = x })
-    ∷ required_at 3 (codes "signature") bytes (λ r. r.signature) (λ x r. record r { signature = x })
-    ∷ optional_at 4 (codes "user") (plain user) (λ r. r.user) (λ x r. record r { user = x })
-    ∷ optional_at 5 (codes "numberOfCredentials") byte (λ r. r.number_of_credentials)
-    (λ x r. record r { number_of_credentials = x })
-    ∷ optional_at 6 (codes "userSelected") truth (λ r. r.user_selected) (λ x r. record r { user_selected = x })
-    ∷ optional_at 7 (codes "largeBlobKey") bytes (λ r. r.large_blob_key) (λ x r. record r { large_blob_key = x })
-    ∷ optional_at 8 (codes "unsignedExtensionOutputs") (plain (unsigned get_assertion_prf)) (λ r. r.unsigned_extension_outputs)
-    (λ x r. record r { unsigned_extension_outputs = x })
-    ∷ []
+abbrev pub get_response : PlainTable GetResponseParts
+get_response = record {
+  blank = record {
+    credential = None;
+    auth_data = bare_data (replicate 32 0) 24 None;
+    signature = [];
+    user = None;
+    number_of_credentials = None;
+    user_selected = None;
+    large_blob_key = None;
+    unsigned_extension_outputs = None;
+  };
+  members = optional_at 1 (codes "credential") (plain descriptor) (λ r. r.credential) (λ x r. record r { credential = x })
+      ∷ required_at 2 (codes "authData") authenticator_data (λ r. r.auth_data) (λ x r. record r { auth_data = x })
+      ∷ required_at 3 (codes "signature") bytes (λ r. r.signature) (λ x r. record r { signature = x })
+      ∷ optional_at 4 (codes "user") (plain user) (λ r. r.user) (λ x r. record r { user = x })
+      ∷ optional_at 5 (codes "numberOfCredentials") byte (λ r. r.number_of_credentials)
+      (λ x r. record r { number_of_credentials = x })
+      ∷ optional_at 6 (codes "userSelected") truth (λ r. r.user_selected) (λ x r. record r { user_selected = x })
+      ∷ optional_at 7 (codes "largeBlobKey") bytes (λ r. r.large_blob_key) (λ x r. record r { large_blob_key = x })
+      ∷ optional_at 8 (codes "unsignedExtensionOutputs") (plain (unsigned get_assertion_prf))
+      (λ r. r.unsigned_extension_outputs) (λ x r. record r { unsigned_extension_outputs = x })
+      ∷ [];
+}
 
+-- how a response is decoded
 abbrev pub get_response_fields : Fields GetResponseParts
-get_response_fields = fields_with true (record {
-  credential = None;
-  auth_data = bare_data (replicate 32 0) 24 None;
-  signature = [];
-  user = None;
-  number_of_credentials = None;
-  user_selected = None;
-  large_blob_key = None;
-  unsigned_extension_outputs = None;
-}) get_response_members
+get_response_fields = numbered_fields get_response
 
--- the response that a data item decodes to, or its first fault
-abbrev pub read_get_response : Item → Result GetResponseParts Fault
-read_get_response = read_item get_response_fields
-
--- ---- the encoding of a response
-
+-- the data item that a response is encoded as
 abbrev pub get_response_tree : GetResponseParts → Item
-get_response_tree r = record_tree (places_of get_response_members r)
-
--- a response keeps no data item undecoded
-abbrev pub get_response_kept : GetResponseParts → List Item
-get_response_kept r = []
-
--- what holds of every response
-abbrev pub GetResponseFits : GetResponseParts → Type 0
-GetResponseFits = EachFits get_response_members
+get_response_tree = plain_tree get_response
 
 -- the authenticator data is coherent, and the encoding has at most `max_depth` nesting levels
 abbrev pub is_get_response_coherent : GetResponseParts → Bool
-is_get_response_coherent r = is_coherent r.auth_data && nat_le (depth (get_response_tree r)) max_depth
+is_get_response_coherent r = is_coherent r.auth_data && is_shallow get_response r
 
 -- the response that the encoding decodes to
 abbrev pub normal_get_response : GetResponseParts → GetResponseParts

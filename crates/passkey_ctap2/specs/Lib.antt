@@ -1,3 +1,4 @@
+pub mod Calls
 pub mod MakeRequest
 pub mod MakeResponse
 pub mod GetRequest

@@ -1,5 +1,5 @@
 -- The same, and the lemmas that proofs of the code cite. Declares nothing.
-pub use Rattle.passkey_kinds.proofs.Common.{drop, elements_in, kept_parts, full, sized_bytes_from, ByteMap, BytesFault, split, item_of-Map, depth, IsEncodedAt, Lies, Left, PairWithin, Item, pairs_of, byte_string, text_string, AtMostOneLeadingItem, WrittenIsLeadingItem, max_depth, item_of, pair_of, Value, is_coherent, GivenIsCoherent, ReadIsGiven, WrittenDataAreReadBack, IfPresent, data_parts, members-pairs_of, algorithm_named, algorithm_from, collected, aaguid_from, data_from, kept_sum, bytes_from, number_from, any_from, truth_from, Kind, optional_from, text_from, name_from, with_members, map_values, ReadIsCoherent, WrittenIsCanonical, EachFits, fields_of, IsReadBack, Any, Spends, Onward, named_as, table_of, record_cost, kept_in, HasReadTo, entry_of, size_from, Entry, entries, Members, Naming, row_or_unknown, KeysAscend, number_tree, entry_tree, Row, ◌≡◌, ◌∙◌, ◌<◌, nat_lt, ℕ, suc, arith, Bool, true, false, ◌&&◌, if◌then◌else◌, List, [], ◌++◌, length, map, Option, Some, None, option_map, refl, sym, ap, rules, ◌≤◌, Result, subst, ◌-◌, nat_le, Ok, Err, OnOk, ◌==◌, pos, ◌^◌, max, unwrap_or, zero, min, ltb-true, le-leb, and_parts, and_from, nat_tests, length-map, drop_all, map_push, err_from_is_err_and, find, option_and_then, codes, result_ok, Bytes, PairsAreEncodedAt, ReadsText, deref_pair, drop-map, item_of-Bytes, by_length, is_lt, always_returns_same, text_bytes, names, head_array, head_map}
+pub use Rattle.passkey_kinds.proofs.Common.{drop, elements_in, kept_parts, full, sized_bytes_from, ByteMap, BytesFault, split, item_of-Map, depth, IsEncodedAt, Lies, Left, PairWithin, Item, pairs_of, byte_string, text_string, AtMostOneLeadingItem, WrittenIsLeadingItem, max_depth, item_of, pair_of, Value, is_coherent, GivenIsCoherent, ReadIsGiven, WrittenDataAreReadBack, IfPresent, data_parts, members-pairs_of, algorithm_named, algorithm_from, collected, aaguid_from, data_from, kept_sum, bytes_from, number_from, any_from, truth_from, Kind, optional_from, text_from, name_from, with_members, map_values, ReadIsCoherent, WrittenIsCanonical, EachFits, fields_of, IsReadBack, Any, Spends, Onward, named_as, table_of, record_cost, kept_in, HasReadTo, entry_of, size_from, Entry, entries, Members, Naming, row_or_unknown, KeysAscend, number_tree, entry_tree, Row, ◌≡◌, ◌∙◌, ◌<◌, nat_lt, ℕ, suc, arith, Bool, true, false, ◌&&◌, if◌then◌else◌, List, [], ◌++◌, length, map, Option, Some, None, option_map, refl, sym, ap, rules, ◌≤◌, Result, subst, ◌-◌, nat_le, Ok, Err, OnOk, ◌==◌, pos, ◌^◌, max, unwrap_or, zero, min, ltb-true, and_parts, and_from, nat_tests, length-map, drop_all, map_push, err_from_is_err_and, find, option_and_then, codes, result_ok, Bytes, PairsAreEncodedAt, ReadsText, deref_pair, drop-map, item_of-Bytes, by_length, is_lt, always_returns_same, text_bytes, names, head_array, head_map}
 unfoldable pub use Rattle.passkey_kinds.proofs.Common.{shortest_head}
 pub use Rattle.passkey_kinds.proofs.Lists.{sized_gathered, mapped_at, head_before, kept_none, kept_elements_in, kept_members_in, after_head, numbers_are, list_in, accepted_in, map_in, filled_in, text_read, text_refused, decodes_in, stopped, gone_on, answers_from, each_same, map_values-empty, read_more, map_values-insert, map_values_same, fits_more, written_more, fits_next, written_next}
 pub use Rattle.passkey_kinds.proofs.Back.{true_place, Falls, accepts_it, option_place, puts_value, puts_default, kind_back, ◌▸◌, no_more, rows_back, picked, picked_back}
@@ -14,7 +14,7 @@ pub use Rattle.passkey_kinds.proofs.Lawful.{IsLawful, lawful, raised, IsLawfulAs
 pub use Rattle.passkey_kinds.proofs.Loops.{EachTo, next_is, one_spare, spent_within, some_are, one_more_done, each_done, at_least, kept_pairs, kept_record, cost_by_le, key_spent, member_spent}
 pub use Rattle.passkey_kinds.proofs.Members.{members_are, key_names, goes_on, fails, all_read, reads_from, no_record, held_answers, held_ok, sets_put}
 pub use Rattle.passkey_kinds.proofs.RecordLaws.{may_grow, went_back, message_is, fault_is, skips_unknown}
-pub use Rattle.passkey_kinds.proofs.Ordered.{keys_ascend, record_ordered, few_levels, Rule, plainly, IsPlain, null_plain, map_plain, in_order, list_plain, numbers_plain, truth_plain, text_plain}
+pub use Rattle.passkey_kinds.proofs.Ordered.{keys_ascend, Rule, plainly, IsPlain, null_plain, map_plain, list_plain, numbers_plain, truth_plain, text_plain}
 pub use Rattle.passkey_kinds.proofs.ByteMaps.{short_first_is, sorted-map}
 pub use Rattle.passkey_kinds.proofs.Sinks.{record_writable, record_written}
 pub use Rattle.passkey_kinds.proofs.Around.{Around, OnlyAt, item_around, around, required_keeps, optional_keeps, tolerated_keeps, decoded_few, canonical_around, OnlyDeep, only_deep}

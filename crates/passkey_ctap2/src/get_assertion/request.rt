@@ -1,9 +1,9 @@
 //! authenticatorGetAssertion requests.
-ghost use Rattle.std.specs.Prelude.{◌≡◌, IfOk, IfErr, OnOk};
-ghost use Rattle.passkey_kinds.specs.Words.{places_of, item_of, IsWritable, written, ReadsMessage, ReadsHere, GrowsMessage, MayGrowAt, Reads, table_of};
-ghost use Rattle.passkey_ctap2.specs.GetRequest.{GetRequestParts, get_request_fields, read_get_request, get_request_members, get_request_tree, GetRequestFits, is_get_request_coherent, get_request_parts};
-ghost use Rattle.passkey_kinds.specs.declared.fault.Fault.TheVariants.{OutOfMemory as NoRoom};
-ghost use Rattle.passkey_kinds.specs.declared.fault.WriteFault.TheVariants.{OutOfMemory as NoMemory};
+ghost use Rattle.std.specs.Prelude.{◌≡◌};
+ghost use Rattle.passkey_kinds.specs.Numbered.{is_shallow};
+ghost use Rattle.passkey_kinds.specs.Words.{EachFits, ReadsHere, item_of, places_of};
+ghost use Rattle.passkey_ctap2.specs.Calls.{ReadsItem, ReadsSlice, Writes};
+ghost use Rattle.passkey_ctap2.specs.GetRequest.{GetRequestParts, get_request, get_request_fields, get_request_parts, get_request_tree};
 
 use crate::get_assertion::Options;
 use passkey_bytes::{Bytes, List, Text};
@@ -48,7 +48,7 @@ impl Record for Request {
 
     ghost tree = { get_request_tree };
 
-    ghost coherent = { is_get_request_coherent };
+    ghost coherent = { is_shallow get_request };
 
     fn is_numbered() -> bool {
         true
@@ -93,9 +93,9 @@ impl Record for Request {
 }
 
 impl ToCborMap for Request {
-    ghost places = { λ r. places_of get_request_members (get_request_parts r) };
+    ghost places = { λ r. places_of get_request.members (get_request_parts r) };
 
-    ghost holds = { λ r. GetRequestFits (get_request_parts r) };
+    ghost holds = { λ r. EachFits get_request.members (get_request_parts r) };
 
     fn put_members<S: Sink>(&self, alloc: Global, sink: &mut S) -> Result<(), OutOfMemory> {
         sink.put(alloc, 1_u8, &self.rp_id)?;
@@ -111,56 +111,37 @@ impl ToCborMap for Request {
     fn ordered() {}
 }
 
+/// The calls of `Message`, which says when each error comes.
 impl Request {
     /// Decodes the request at the beginning of the bytes, and returns it with its length in bytes.
     /// The bytes begin with its map: there is no command byte before it. Bytes after it are
     /// ignored.
-    ///
-    /// Returns `DecodeFailed` exactly if the bytes don't begin with a well-formed data item of at
-    /// most 256 nesting levels, and `NotAMap` if the item isn't a map; otherwise the first fault of
-    /// its members in their order (`BadKey`, `Repeated`, `Refused`), or else `Missing` for the
-    /// first required member that is absent. Returns `OutOfMemory` if an allocation fails, which
-    /// can only happen for a member that takes memory.
     pub fn from_slice(alloc: Global, bytes: &[u8]) -> Result<(Request, usize), Fault>
-        ensures reads { ReadsMessage get_request_parts read_get_request bytes.now result }
-        ensures grows { result ≡ Err NoRoom → GrowsMessage get_request_fields bytes.now }
+        ensures { ReadsSlice get_request_parts get_request_fields bytes.now result }
     {
         message_from_slice(alloc, bytes)
     }
 
     /// Decodes the request at the cursor, head by head and without building a data item for the
-    /// whole, and moves past it. Returns `DecodeFailed` exactly if no well-formed data item of at
-    /// most 256 nesting levels is there; otherwise the fault that `from_value` returns for the
-    /// item. Returns `OutOfMemory` if an allocation fails, which can only happen for a member that
-    /// takes memory. On an error the cursor stays, and its counts include what was spent.
+    /// whole, and moves past it.
     pub fn read(alloc: Global, cursor: &mut Cursor<'_>) -> Result<Request, Fault>
         ensures { ReadsHere get_request_parts get_request_fields 9 cursor.old cursor.new result }
     {
         read_message(alloc, cursor)
     }
 
-    /// Decodes the request from a data item. Returns `NotAMap` if the item isn't a map; otherwise
-    /// the first fault of its members in their order (`BadKey`, `Repeated`, `Refused`), or else
-    /// `Missing` for the first required member that is absent. Returns `OutOfMemory` if an
-    /// allocation fails, which can only happen for a member that takes memory. Skips unknown
-    /// members, descriptors and extension inputs that can't be decoded, and an allow list that
-    /// isn't an array.
+    /// Decodes the request from a data item. Skips unknown members, descriptors and extension
+    /// inputs that can't be decoded, and an allow list that isn't an array.
     pub fn from_value(alloc: Global, value: &Value) -> Result<Request, Fault>
-        ensures { Reads get_request_parts (MayGrowAt (table_of get_request_fields) (item_of value.now))
-            (read_get_request (item_of value.now)) result }
+        ensures { ReadsItem get_request_parts get_request_fields (item_of value.now) result }
     {
         record_from_value(alloc, value)
     }
 
     /// Encodes the request, with the members that are present under their numbers in ascending
-    /// order. The options are always encoded. Returns `OutOfMemory` if an allocation fails; there
-    /// is no other error.
+    /// order. The options are always encoded. `OutOfMemory` is the only error.
     pub fn to_vec(&self, alloc: Global) -> Result<Vec<u8>, WriteFault>
-        ensures written { IfOk result
-            (λ bytes. bytes.items ≡ written (get_request_tree (get_request_parts self.now))) }
-        ensures writable { OnOk result (IsWritable (get_request_tree (get_request_parts self.now))) }
-        ensures fits { OnOk result (GetRequestFits (get_request_parts self.now)) }
-        ensures memory { IfErr result (λ e. e ≡ NoMemory) }
+        ensures { Writes get_request (get_request_parts self.now) result }
     {
         write_message(alloc, self)
     }
@@ -168,7 +149,7 @@ impl Request {
     /// Returns whether the encoding can be decoded again: it has at most 256 nesting levels.
     /// Allocates nothing.
     pub fn is_coherent(&self) -> bool
-        ensures { result ≡ is_get_request_coherent (get_request_parts self.now) }
+        ensures { result ≡ is_shallow get_request (get_request_parts self.now) }
     {
         match &self.extensions {
             Some(extensions) => extensions.fits_in_message(),
@@ -192,5 +173,6 @@ impl Message for Request {
         Request::is_coherent(self)
     }
 
+    #[tactic(auto, using(crate::proofs::GetMessages::request_law))]
     fn decoded_is_coherent() {}
 }

@@ -1,10 +1,9 @@
 //! authenticatorGetAssertion responses.
-ghost use Rattle.std.specs.Prelude.{◌≡◌, IfOk, IfErr, OnOk};
-ghost use Rattle.passkey_kinds.specs.Words.{places_of, item_of, IsWritable, written, ReadsMessage, ReadsHere, GrowsMessage, MayGrowAt, Reads, table_of};
-ghost use Rattle.passkey_ctap2.specs.GetResponse.{GetResponseParts, get_response_fields, read_get_response, get_response_members, get_response_tree, GetResponseFits, is_get_response_coherent, get_response_parts};
+ghost use Rattle.std.specs.Prelude.{◌≡◌};
 ghost use Rattle.passkey_kinds.specs.Lending.{LendsRow};
-ghost use Rattle.passkey_kinds.specs.declared.fault.Fault.TheVariants.{OutOfMemory as NoRoom};
-ghost use Rattle.passkey_kinds.specs.declared.fault.WriteFault.TheVariants.{OutOfMemory as NoMemory};
+ghost use Rattle.passkey_kinds.specs.Words.{EachFits, ReadsHere, item_of, places_of, table_of};
+ghost use Rattle.passkey_ctap2.specs.Calls.{ReadsItem, ReadsSlice, Writes};
+ghost use Rattle.passkey_ctap2.specs.GetResponse.{GetResponseParts, get_response, get_response_fields, get_response_parts, get_response_tree, is_get_response_coherent};
 
 use passkey_bytes::Bytes;
 use passkey_cbor::{BytesToken, Cursor, Value};
@@ -101,9 +100,9 @@ impl Record for Response {
 }
 
 impl ToCborMap for Response {
-    ghost places = { λ r. places_of get_response_members (get_response_parts r) };
+    ghost places = { λ r. places_of get_response.members (get_response_parts r) };
 
-    ghost holds = { λ r. GetResponseFits (get_response_parts r) };
+    ghost holds = { λ r. EachFits get_response.members (get_response_parts r) };
 
     fn put_members<S: Sink>(&self, alloc: Global, sink: &mut S) -> Result<(), OutOfMemory> {
         sink.put_some(alloc, 1_u8, &self.credential)?;
@@ -117,44 +116,31 @@ impl ToCborMap for Response {
         Ok(())
     }
 
+    #[tactic(auto, using(crate::proofs::GetMessages::response_keys))]
     fn ordered() {}
 }
 
+/// The calls of `Message`, which says when each error comes, and the bytes that are signed.
 impl Response {
     /// Decodes the response at the beginning of the bytes, and returns it with its length in bytes.
     /// The bytes begin with its map: there is no status byte before it. Bytes after it are ignored.
-    ///
-    /// Returns `DecodeFailed` exactly if the bytes don't begin with a well-formed data item of at
-    /// most 256 nesting levels, and `NotAMap` if the item isn't a map; otherwise the first fault of
-    /// its members in their order (`BadKey`, `Repeated`, `Refused`), or else `Missing` for the
-    /// first required member that is absent. Returns `OutOfMemory` if an allocation fails, which
-    /// can only happen for a member that takes memory.
     pub fn from_slice(alloc: Global, bytes: &[u8]) -> Result<(Response, usize), Fault>
-        ensures reads { ReadsMessage get_response_parts read_get_response bytes.now result }
-        ensures grows { result ≡ Err NoRoom → GrowsMessage get_response_fields bytes.now }
+        ensures { ReadsSlice get_response_parts get_response_fields bytes.now result }
     {
         message_from_slice(alloc, bytes)
     }
 
     /// Decodes the response at the cursor, head by head and without building a data item for the
-    /// whole, and moves past it. Returns `DecodeFailed` exactly if no well-formed data item of at
-    /// most 256 nesting levels is there; otherwise the fault that `from_value` returns for the
-    /// item. Returns `OutOfMemory` if an allocation fails, which can only happen for a member that
-    /// takes memory. On an error the cursor stays, and its counts include what was spent.
+    /// whole, and moves past it.
     pub fn read(alloc: Global, cursor: &mut Cursor<'_>) -> Result<Response, Fault>
         ensures { ReadsHere get_response_parts get_response_fields 7 cursor.old cursor.new result }
     {
         read_message(alloc, cursor)
     }
 
-    /// Decodes the response from a data item. Returns `NotAMap` if the item isn't a map; otherwise
-    /// the first fault of its members in their order (`BadKey`, `Repeated`, `Refused`), or else
-    /// `Missing` for the first required member that is absent. Returns `OutOfMemory` if an
-    /// allocation fails, which can only happen for a member that takes memory. Skips unknown
-    /// members.
+    /// Decodes the response from a data item. Skips unknown members.
     pub fn from_value(alloc: Global, value: &Value) -> Result<Response, Fault>
-        ensures { Reads get_response_parts (MayGrowAt (table_of get_response_fields) (item_of value.now))
-            (read_get_response (item_of value.now)) result }
+        ensures { ReadsItem get_response_parts get_response_fields (item_of value.now) result }
     {
         record_from_value(alloc, value)
     }
@@ -175,13 +161,9 @@ impl Response {
     }
 
     /// Encodes the response, with the members that are present under their numbers in ascending
-    /// order. Returns `OutOfMemory` if an allocation fails; there is no other error.
+    /// order. `OutOfMemory` is the only error.
     pub fn to_vec(&self, alloc: Global) -> Result<Vec<u8>, WriteFault>
-        ensures written { IfOk result
-            (λ bytes. bytes.items ≡ written (get_response_tree (get_response_parts self.now))) }
-        ensures writable { OnOk result (IsWritable (get_response_tree (get_response_parts self.now))) }
-        ensures fits { OnOk result (GetResponseFits (get_response_parts self.now)) }
-        ensures memory { IfErr result (λ e. e ≡ NoMemory) }
+        ensures { Writes get_response (get_response_parts self.now) result }
     {
         write_message(alloc, self)
     }

@@ -1,5 +1,5 @@
-use Rattle.passkey_ctap2.proofs.GetMessages.{get_response_coherent}
+use Rattle.passkey_ctap2.proofs.GetMessages.{response_coherent}
 use Rattle.passkey_ctap2.proofs.get_assertion.response.ResponseMessage.decoded_is_coherent.Goals as goal
 
 pub returns : goal.returns
-returns c = get_response_coherent c.given_data_are_coherent.ensures
+returns c = response_coherent c.given_data_are_coherent.ensures
