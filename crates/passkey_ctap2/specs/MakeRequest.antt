@@ -1,11 +1,11 @@
 -- authenticatorMakeCredential requests and their options (CTAP 2.1, section 6.1).
-use Rattle.std.specs.Prelude.{[], ◌∷◌, true, false, codes, ℕ, nat_le, Bool, List, Option, None, Result, option_map}
+use Rattle.std.specs.Prelude.{[], ◌∷◌, true, false, codes, ℕ, List, Option, None, option_map}
 use Rattle.passkey_extensions.specs.Entities.{rp}
 use Rattle.passkey_extensions.specs.declared.rp.PublicKeyCredentialRpEntity.{PublicKeyCredentialRpEntity}
 use Rattle.passkey_extensions.specs.MakeExtensions.{MakeExtensionsParts, make_extensions_coded, make_extensions_parts, make_extensions_kept}
 use Rattle.passkey_kinds.specs.Coded.{truth, bytes, accepted_of}
-use Rattle.passkey_kinds.specs.Words.{byte, plain, where_true, kept_if_some, text_string, PlainTable, placed, default_as, default, depth, max_depth, Item, Placed, required_at, default_at, optional_at, tolerated_at, places_of, EachFits, descriptor, parameters, webauthn_user, Fields, fields_with, read_item, record_tree, PublicKeyCredentialDescriptor, PublicKeyCredentialParameters, PublicKeyCredentialUserEntity}
-use Rattle.passkey_kinds.specs.declared.fault.Fault.{Fault}
+use Rattle.passkey_kinds.specs.Numbered.{numbered_fields}
+use Rattle.passkey_kinds.specs.Words.{byte, plain, plain_tree, where_true, kept_if_some, text_string, PlainTable, placed, default_as, default, Item, required_at, default_at, optional_at, tolerated_at, descriptor, parameters, webauthn_user, Fields, PublicKeyCredentialDescriptor, PublicKeyCredentialParameters, PublicKeyCredentialUserEntity}
 use Rattle.passkey_ctap2.specs.declared.make_credential.options.Options.{Options}
 use Rattle.passkey_ctap2.specs.declared.make_credential.request.Request.{Request}
 
@@ -56,54 +56,44 @@ make_request_parts r = record {
   pin_protocol = r.pin_protocol;
 }
 
-abbrev pub make_request_members : List (Placed MakeRequestParts)
-make_request_members =
-    required_at 1 (codes "clientDataHash") bytes (λ r. r.client_data_hash) (λ x r. record r { client_data_hash = x })
-    ∷ required_at 2 (codes "rp") (plain rp) (λ r. r.rp) (λ x r. record r { rp = x })
-    ∷ required_at 3 (codes "user") (plain webauthn_user) (λ r. r.user) (λ x r. record r { user = x })
-    ∷ required_at 4 (codes "pubKeyCredParams") (accepted_of (plain parameters)) (λ r. r.pub_key_cred_params)
-    (λ x r. record r { pub_key_cred_params = x })
-    ∷ tolerated_at 5 (codes "excludeList") (accepted_of (plain descriptor)) (λ r. r.exclude_list)
-    (λ x r. record r { exclude_list = x })
-    ∷ optional_at 6 (codes "extensions") make_extensions_coded (λ r. r.extensions) (λ x r. record r { extensions = x })
-    ∷ default_at 7 (codes "options") (plain options) (λ r. r.options) (λ x r. record r { options = x })
-    ∷ optional_at 8 (codes "pinAuth") bytes (λ r. r.pin_auth) (λ x r. record r { pin_auth = x })
-    ∷ optional_at 9 (codes "pinProtocol") byte (λ r. r.pin_protocol) (λ x r. record r { pin_protocol = x })
-    ∷ []
+abbrev pub make_request : PlainTable MakeRequestParts
+make_request = record {
+  blank = record {
+    client_data_hash = [];
+    rp = rp.blank;
+    user = webauthn_user.blank;
+    pub_key_cred_params = [];
+    exclude_list = None;
+    extensions = None;
+    options = options_default;
+    pin_auth = None;
+    pin_protocol = None;
+  };
+  members = required_at 1 (codes "clientDataHash") bytes (λ r. r.client_data_hash)
+      (λ x r. record r { client_data_hash = x })
+      ∷ required_at 2 (codes "rp") (plain rp) (λ r. r.rp) (λ x r. record r { rp = x })
+      ∷ required_at 3 (codes "user") (plain webauthn_user) (λ r. r.user) (λ x r. record r { user = x })
+      ∷ required_at 4 (codes "pubKeyCredParams") (accepted_of (plain parameters)) (λ r. r.pub_key_cred_params)
+      (λ x r. record r { pub_key_cred_params = x })
+      ∷ tolerated_at 5 (codes "excludeList") (accepted_of (plain descriptor)) (λ r. r.exclude_list)
+      (λ x r. record r { exclude_list = x })
+      ∷ optional_at 6 (codes "extensions") make_extensions_coded (λ r. r.extensions) (λ x r. record r { extensions = x })
+      ∷ default_at 7 (codes "options") (plain options) (λ r. r.options) (λ x r. record r { options = x })
+      ∷ optional_at 8 (codes "pinAuth") bytes (λ r. r.pin_auth) (λ x r. record r { pin_auth = x })
+      ∷ optional_at 9 (codes "pinProtocol") byte (λ r. r.pin_protocol) (λ x r. record r { pin_protocol = x })
+      ∷ [];
+}
 
+-- how a request is decoded
 abbrev pub make_request_fields : Fields MakeRequestParts
-make_request_fields = fields_with true (record {
-  client_data_hash = [];
-  rp = rp.blank;
-  user = webauthn_user.blank;
-  pub_key_cred_params = [];
-  exclude_list = None;
-  extensions = None;
-  options = options_default;
-  pin_auth = None;
-  pin_protocol = None;
-}) make_request_members
+make_request_fields = numbered_fields make_request
 
--- the request that a data item decodes to, or its first fault
-abbrev pub read_make_request : Item → Result MakeRequestParts Fault
-read_make_request = read_item make_request_fields
-
--- ---- the encoding of a request
-
+-- the data item that a request is encoded as, and what it keeps undecoded of it
 abbrev pub make_request_tree : MakeRequestParts → Item
-make_request_tree r = record_tree (places_of make_request_members r)
+make_request_tree = plain_tree make_request
 
--- the data item that a request keeps undecoded, if there is one
 abbrev pub make_request_kept : MakeRequestParts → List Item
 make_request_kept r = kept_if_some make_extensions_kept r.extensions
-
--- what holds of every request
-abbrev pub MakeRequestFits : MakeRequestParts → Type 0
-MakeRequestFits = EachFits make_request_members
-
--- the encoding has at most `max_depth` nesting levels, so it can be decoded again
-abbrev pub is_make_request_coherent : MakeRequestParts → Bool
-is_make_request_coherent r = nat_le (depth (make_request_tree r)) max_depth
 
 -- the request that the encoding decodes to
 abbrev pub normal_make_request : MakeRequestParts → MakeRequestParts

@@ -1,8 +1,8 @@
 -- authenticatorMakeCredential responses (CTAP 2.1, section 6.1).
-use Rattle.std.specs.Prelude.{ℕ, nat_le, Bool, true, ◌&&◌, List, [], ◌∷◌, Option, None, codes, Result, replicate}
-use Rattle.passkey_kinds.specs.Words.{depth, max_depth, Item, text_string, null, is_coherent, normal_data, DataParts, bare_data, auth_data_tree, Placed, required_at, optional_at, places_of, EachFits, Fields, fields_with, read_item, Place, always, record_tree, item_of, data_parts}
+use Rattle.std.specs.Prelude.{ℕ, Bool, ◌&&◌, List, [], ◌∷◌, Option, None, codes, replicate}
+use Rattle.passkey_kinds.specs.Numbered.{is_shallow, numbered_fields}
+use Rattle.passkey_kinds.specs.Words.{Item, text_string, null, is_coherent, normal_data, DataParts, bare_data, auth_data_tree, PlainTable, plain_tree, required_at, optional_at, Fields, Place, always, record_tree, item_of, data_parts}
 use Rattle.passkey_kinds.specs.Coded.{truth, text, bytes, authenticator_data, item, plain}
-use Rattle.passkey_kinds.specs.declared.fault.Fault.{Fault}
 use Rattle.passkey_cbor.specs.Item.{map, no_pairs}
 use Rattle.passkey_extensions.specs.Prf.{make_credential_prf, unsigned}
 use Rattle.passkey_extensions.specs.declared.prf.AuthenticatorPrfMakeOutputs.{AuthenticatorPrfMakeOutputs}
@@ -28,47 +28,40 @@ make_response_parts r = record {
   unsigned_extension_outputs = r.unsigned_extension_outputs;
 }
 
-abbrev pub make_response_members : List (Placed MakeResponseParts)
-make_response_members =
-    required_at 1 (codes "fmt") text (λ r. r.fmt) (λ x r. record r { fmt = x })
-    ∷ required_at 2 (codes "authData") authenticator_data (λ r. r.auth_data) (λ x r. record r { auth_data = x })
-    ∷ required_at 3 (codes "attStmt") item (λ r. r.att_stmt) (λ x r. record r { att_stmt = x })
-    ∷ optional_at 4 (codes "epAtt") truth (λ r. r.ep_att) (λ x r. record r { ep_att = x })
-    ∷ optional_at 5 (codes "largeBlobKey") bytes (λ r. r.large_blob_key) (λ x r. record r { large_blob_key = x })
-    ∷ optional_at 6 (codes "unsignedExtensionOutputs") (plain (unsigned make_credential_prf)) (λ r. r.unsigned_extension_outputs)
-    (λ x r. record r { unsigned_extension_outputs = x })
-    ∷ []
+abbrev pub make_response : PlainTable MakeResponseParts
+make_response = record {
+  blank = record {
+    fmt = [];
+    auth_data = bare_data (replicate 32 0) 24 None;
+    att_stmt = null;
+    ep_att = None;
+    large_blob_key = None;
+    unsigned_extension_outputs = None;
+  };
+  members = required_at 1 (codes "fmt") text (λ r. r.fmt) (λ x r. record r { fmt = x })
+      ∷ required_at 2 (codes "authData") authenticator_data (λ r. r.auth_data) (λ x r. record r { auth_data = x })
+      ∷ required_at 3 (codes "attStmt") item (λ r. r.att_stmt) (λ x r. record r { att_stmt = x })
+      ∷ optional_at 4 (codes "epAtt") truth (λ r. r.ep_att) (λ x r. record r { ep_att = x })
+      ∷ optional_at 5 (codes "largeBlobKey") bytes (λ r. r.large_blob_key) (λ x r. record r { large_blob_key = x })
+      ∷ optional_at 6 (codes "unsignedExtensionOutputs") (plain (unsigned make_credential_prf))
+      (λ r. r.unsigned_extension_outputs) (λ x r. record r { unsigned_extension_outputs = x })
+      ∷ [];
+}
 
+-- how a response is decoded
 abbrev pub make_response_fields : Fields MakeResponseParts
-make_response_fields = fields_with true (record {
-  fmt = [];
-  auth_data = bare_data (replicate 32 0) 24 None;
-  att_stmt = null;
-  ep_att = None;
-  large_blob_key = None;
-  unsigned_extension_outputs = None;
-}) make_response_members
+make_response_fields = numbered_fields make_response
 
--- the response that a data item decodes to, or its first fault
-abbrev pub read_make_response : Item → Result MakeResponseParts Fault
-read_make_response = read_item make_response_fields
-
--- ---- the encoding of a response
-
+-- the data item that a response is encoded as, and what it keeps undecoded of it: the attestation statement
 abbrev pub make_response_tree : MakeResponseParts → Item
-make_response_tree r = record_tree (places_of make_response_members r)
+make_response_tree = plain_tree make_response
 
--- the data item that a response keeps undecoded: the attestation statement
 abbrev pub make_response_kept : MakeResponseParts → List Item
 make_response_kept r = r.att_stmt ∷ []
 
--- what holds of every response
-abbrev pub MakeResponseFits : MakeResponseParts → Type 0
-MakeResponseFits = EachFits make_response_members
-
 -- the authenticator data is coherent, and the encoding has at most `max_depth` nesting levels
 abbrev pub is_make_response_coherent : MakeResponseParts → Bool
-is_make_response_coherent r = is_coherent r.auth_data && nat_le (depth (make_response_tree r)) max_depth
+is_make_response_coherent r = is_coherent r.auth_data && is_shallow make_response r
 
 -- the response that the encoding decodes to
 abbrev pub normal_make_response : MakeResponseParts → MakeResponseParts

@@ -1,9 +1,9 @@
 //! authenticatorMakeCredential requests.
-ghost use Rattle.std.specs.Prelude.{◌≡◌, IfOk, IfErr, OnOk};
-ghost use Rattle.passkey_kinds.specs.Words.{places_of, item_of, IsWritable, written, ReadsMessage, ReadsHere, GrowsMessage, MayGrowAt, Reads, table_of};
-ghost use Rattle.passkey_ctap2.specs.MakeRequest.{MakeRequestParts, make_request_fields, read_make_request, make_request_members, make_request_tree, MakeRequestFits, is_make_request_coherent, make_request_parts};
-ghost use Rattle.passkey_kinds.specs.declared.fault.Fault.TheVariants.{OutOfMemory as NoRoom};
-ghost use Rattle.passkey_kinds.specs.declared.fault.WriteFault.TheVariants.{OutOfMemory as NoMemory};
+ghost use Rattle.std.specs.Prelude.{◌≡◌};
+ghost use Rattle.passkey_kinds.specs.Numbered.{is_shallow};
+ghost use Rattle.passkey_kinds.specs.Words.{EachFits, ReadsHere, item_of, places_of};
+ghost use Rattle.passkey_ctap2.specs.Calls.{ReadsItem, ReadsSlice, Writes};
+ghost use Rattle.passkey_ctap2.specs.MakeRequest.{MakeRequestParts, make_request, make_request_fields, make_request_parts, make_request_tree};
 
 use crate::make_credential::{Options, PublicKeyCredentialRpEntity};
 use passkey_bytes::{Bytes, List};
@@ -55,7 +55,7 @@ impl Record for Request {
 
     ghost tree = { make_request_tree };
 
-    ghost coherent = { is_make_request_coherent };
+    ghost coherent = { is_shallow make_request };
 
     fn is_numbered() -> bool {
         true
@@ -106,9 +106,9 @@ impl Record for Request {
 }
 
 impl ToCborMap for Request {
-    ghost places = { λ r. places_of make_request_members (make_request_parts r) };
+    ghost places = { λ r. places_of make_request.members (make_request_parts r) };
 
-    ghost holds = { λ r. MakeRequestFits (make_request_parts r) };
+    ghost holds = { λ r. EachFits make_request.members (make_request_parts r) };
 
     fn put_members<S: Sink>(&self, alloc: Global, sink: &mut S) -> Result<(), OutOfMemory> {
         sink.put(alloc, 1_u8, &self.client_data_hash)?;
@@ -126,56 +126,37 @@ impl ToCborMap for Request {
     fn ordered() {}
 }
 
+/// The calls of `Message`, which says when each error comes.
 impl Request {
     /// Decodes the request at the beginning of the bytes, and returns it with its length in bytes.
     /// The bytes begin with its map: there is no command byte before it. Bytes after it are
     /// ignored.
-    ///
-    /// Returns `DecodeFailed` exactly if the bytes don't begin with a well-formed data item of at
-    /// most 256 nesting levels, and `NotAMap` if the item isn't a map; otherwise the first fault of
-    /// its members in their order (`BadKey`, `Repeated`, `Refused`), or else `Missing` for the
-    /// first required member that is absent. Returns `OutOfMemory` if an allocation fails, which
-    /// can only happen for a member that takes memory.
     pub fn from_slice(alloc: Global, bytes: &[u8]) -> Result<(Request, usize), Fault>
-        ensures reads { ReadsMessage make_request_parts read_make_request bytes.now result }
-        ensures grows { result ≡ Err NoRoom → GrowsMessage make_request_fields bytes.now }
+        ensures { ReadsSlice make_request_parts make_request_fields bytes.now result }
     {
         message_from_slice(alloc, bytes)
     }
 
     /// Decodes the request at the cursor, head by head and without building a data item for the
-    /// whole, and moves past it. Returns `DecodeFailed` exactly if no well-formed data item of at
-    /// most 256 nesting levels is there; otherwise the fault that `from_value` returns for the
-    /// item. Returns `OutOfMemory` if an allocation fails, which can only happen for a member that
-    /// takes memory. On an error the cursor stays, and its counts include what was spent.
+    /// whole, and moves past it.
     pub fn read(alloc: Global, cursor: &mut Cursor<'_>) -> Result<Request, Fault>
         ensures { ReadsHere make_request_parts make_request_fields 9 cursor.old cursor.new result }
     {
         read_message(alloc, cursor)
     }
 
-    /// Decodes the request from a data item. Returns `NotAMap` if the item isn't a map; otherwise
-    /// the first fault of its members in their order (`BadKey`, `Repeated`, `Refused`), or else
-    /// `Missing` for the first required member that is absent. Returns `OutOfMemory` if an
-    /// allocation fails, which can only happen for a member that takes memory. Skips unknown
-    /// members, parameters and descriptors that can't be decoded, and an exclude list that isn't an
-    /// array.
+    /// Decodes the request from a data item. Skips unknown members, parameters and descriptors that
+    /// can't be decoded, and an exclude list that isn't an array.
     pub fn from_value(alloc: Global, value: &Value) -> Result<Request, Fault>
-        ensures { Reads make_request_parts (MayGrowAt (table_of make_request_fields) (item_of value.now))
-            (read_make_request (item_of value.now)) result }
+        ensures { ReadsItem make_request_parts make_request_fields (item_of value.now) result }
     {
         record_from_value(alloc, value)
     }
 
     /// Encodes the request, with the members that are present under their numbers in ascending
-    /// order. The options are always encoded. Returns `OutOfMemory` if an allocation fails; there
-    /// is no other error.
+    /// order. The options are always encoded. `OutOfMemory` is the only error.
     pub fn to_vec(&self, alloc: Global) -> Result<Vec<u8>, WriteFault>
-        ensures written { IfOk result
-            (λ bytes. bytes.items ≡ written (make_request_tree (make_request_parts self.now))) }
-        ensures writable { OnOk result (IsWritable (make_request_tree (make_request_parts self.now))) }
-        ensures fits { OnOk result (MakeRequestFits (make_request_parts self.now)) }
-        ensures memory { IfErr result (λ e. e ≡ NoMemory) }
+        ensures { Writes make_request (make_request_parts self.now) result }
     {
         write_message(alloc, self)
     }
@@ -183,7 +164,7 @@ impl Request {
     /// Returns whether the encoding can be decoded again: it has at most 256 nesting levels.
     /// Allocates nothing.
     pub fn is_coherent(&self) -> bool
-        ensures { result ≡ is_make_request_coherent (make_request_parts self.now) }
+        ensures { result ≡ is_shallow make_request (make_request_parts self.now) }
     {
         match &self.extensions {
             Some(extensions) => extensions.fits_in_message(),
@@ -207,5 +188,6 @@ impl Message for Request {
         Request::is_coherent(self)
     }
 
+    #[tactic(auto, using(crate::proofs::MakeMessages::request_law))]
     fn decoded_is_coherent() {}
 }

@@ -1,10 +1,9 @@
 //! authenticatorMakeCredential responses.
-ghost use Rattle.std.specs.Prelude.{◌≡◌, IfOk, IfErr, OnOk};
-ghost use Rattle.passkey_kinds.specs.Words.{places_of, item_of, IsWritable, written, IsData, data_parts, ReadsMessage, ReadsHere, GrowsMessage, MayGrowAt, Reads, table_of};
-ghost use Rattle.passkey_ctap2.specs.MakeResponse.{MakeResponseParts, make_response_fields, read_make_response, make_response_members, make_response_tree, MakeResponseFits, is_make_response_coherent, attestation_tree, make_response_parts};
+ghost use Rattle.std.specs.Prelude.{◌≡◌, IfOk, OnOk};
 ghost use Rattle.passkey_kinds.specs.Lending.{LendsRow};
-ghost use Rattle.passkey_kinds.specs.declared.fault.Fault.TheVariants.{OutOfMemory as NoRoom};
-ghost use Rattle.passkey_kinds.specs.declared.fault.WriteFault.TheVariants.{OutOfMemory as NoMemory};
+ghost use Rattle.passkey_kinds.specs.Words.{EachFits, IsData, IsWritable, ReadsHere, data_parts, item_of, places_of, table_of, written};
+ghost use Rattle.passkey_ctap2.specs.Calls.{ReadsItem, ReadsSlice, Writes};
+ghost use Rattle.passkey_ctap2.specs.MakeResponse.{MakeResponseParts, attestation_tree, is_make_response_coherent, make_response, make_response_fields, make_response_parts, make_response_tree};
 
 use passkey_bytes::{Bytes, Text};
 use passkey_cbor::{BytesToken, Cursor, Encoder, MAX_DEPTH, Value};
@@ -86,9 +85,9 @@ impl Record for Response {
 }
 
 impl ToCborMap for Response {
-    ghost places = { λ r. places_of make_response_members (make_response_parts r) };
+    ghost places = { λ r. places_of make_response.members (make_response_parts r) };
 
-    ghost holds = { λ r. MakeResponseFits (make_response_parts r) };
+    ghost holds = { λ r. EachFits make_response.members (make_response_parts r) };
 
     fn put_members<S: Sink>(&self, alloc: Global, sink: &mut S) -> Result<(), OutOfMemory> {
         sink.put(alloc, 1_u8, &self.fmt)?;
@@ -103,43 +102,29 @@ impl ToCborMap for Response {
     fn ordered() {}
 }
 
+/// The calls of `Message`, which says when each error comes, and those for an attestation.
 impl Response {
     /// Decodes the response at the beginning of the bytes, and returns it with its length in bytes.
     /// The bytes begin with its map: there is no status byte before it, and nothing around it. An
     /// attestation object (WebAuthn Level 3, section 6.5.4) is such a map, with names for numbers.
     /// Bytes after it are ignored.
-    ///
-    /// Returns `DecodeFailed` exactly if the bytes don't begin with a well-formed data item of at
-    /// most 256 nesting levels, and `NotAMap` if the item isn't a map; otherwise the first fault of
-    /// its members in their order (`BadKey`, `Repeated`, `Refused`), or else `Missing` for the
-    /// first required member that is absent. Returns `OutOfMemory` if an allocation fails, which
-    /// can only happen for a member that takes memory.
     pub fn from_slice(alloc: Global, bytes: &[u8]) -> Result<(Response, usize), Fault>
-        ensures reads { ReadsMessage make_response_parts read_make_response bytes.now result }
-        ensures grows { result ≡ Err NoRoom → GrowsMessage make_response_fields bytes.now }
+        ensures { ReadsSlice make_response_parts make_response_fields bytes.now result }
     {
         message_from_slice(alloc, bytes)
     }
 
     /// Decodes the response at the cursor, head by head and without building a data item for the
-    /// whole, and moves past it. Returns `DecodeFailed` exactly if no well-formed data item of at
-    /// most 256 nesting levels is there; otherwise the fault that `from_value` returns for the
-    /// item. Returns `OutOfMemory` if an allocation fails, which can only happen for a member that
-    /// takes memory. On an error the cursor stays, and its counts include what was spent.
+    /// whole, and moves past it.
     pub fn read(alloc: Global, cursor: &mut Cursor<'_>) -> Result<Response, Fault>
         ensures { ReadsHere make_response_parts make_response_fields 8 cursor.old cursor.new result }
     {
         read_message(alloc, cursor)
     }
 
-    /// Decodes the response from a data item. Returns `NotAMap` if the item isn't a map; otherwise
-    /// the first fault of its members in their order (`BadKey`, `Repeated`, `Refused`), or else
-    /// `Missing` for the first required member that is absent. Returns `OutOfMemory` if an
-    /// allocation fails, which can only happen for a member that takes memory. Skips unknown
-    /// members.
+    /// Decodes the response from a data item. Skips unknown members.
     pub fn from_value(alloc: Global, value: &Value) -> Result<Response, Fault>
-        ensures { Reads make_response_parts (MayGrowAt (table_of make_response_fields) (item_of value.now))
-            (read_make_response (item_of value.now)) result }
+        ensures { ReadsItem make_response_parts make_response_fields (item_of value.now) result }
     {
         record_from_value(alloc, value)
     }
@@ -161,13 +146,9 @@ impl Response {
     }
 
     /// Encodes the response, with the members that are present under their numbers in ascending
-    /// order. Returns `OutOfMemory` if an allocation fails; there is no other error.
+    /// order. `OutOfMemory` is the only error.
     pub fn to_vec(&self, alloc: Global) -> Result<Vec<u8>, WriteFault>
-        ensures written { IfOk result
-            (λ bytes. bytes.items ≡ written (make_response_tree (make_response_parts self.now))) }
-        ensures writable { OnOk result (IsWritable (make_response_tree (make_response_parts self.now))) }
-        ensures fits { OnOk result (MakeResponseFits (make_response_parts self.now)) }
-        ensures memory { IfErr result (λ e. e ≡ NoMemory) }
+        ensures { Writes make_response (make_response_parts self.now) result }
     {
         write_message(alloc, self)
     }
