@@ -1,12 +1,15 @@
 -- authenticatorGetInfo responses: decoding their encodings again, their nesting levels, and their canonical form.
-use Rattle.passkey_kinds.proofs.Common.{record_kind}
+use Rattle.passkey_kinds.proofs.Common.{places_of}
 use Rattle.passkey_kinds.proofs.Lists.{option_same}
-use Rattle.passkey_kinds.proofs.Steps.{Around, OnlyAt, KeysAscend, keys_ascend, OnlyDeep, only_deep, item_around, around, optional_keeps, decoded_few, canonical_around, ◌∙◌, option_and_then, arith, ◌≡◌, Option, Some, None, refl, Item, shortest_head, any_from, optional_from, IsReadBack, Any, Falls, accepts_it, truth_back, anything, optional_place, IsLawful, lawful, plainly, puts_value, puts_default, ◌▸◌, no_more, number_tree, PlaceHas, EachPlace, list_plain, parameters_law, nat_tests, ℕ, pos, ◌^◌, ◌<◌, nat_lt, nat_le, ltb-true, Bool, true, false, ◌&&◌, if◌then◌else◌, option_map, unwrap_or, Result, Ok, Err, OnOk, sym, ap, and_from, depth, max_depth, IfPresent, ReadIsCoherent, size_from, option_place, record_keeps, rows_back, size_back, aaguid_back, list_same, byte_back, word_back, text_back, bytes_back, transport_back, list_back, optional_back, all_of_anything, accepted_place, and_parts, AtMostOneLeadingItem, WrittenIsLeadingItem, WrittenIsCanonical}
-use Rattle.std.proofs.Common.{ℕ, List, Bool, ◌<◌, ◌^◌, is_ok, IfErr, leb-true}
+use Rattle.passkey_kinds.proofs.Steps.{KeysAscend, keys_ascend, item_around, optional_keeps, back_if_good, option_and_then, arith, ◌≡◌, Option, Some, None, refl, Item, shortest_head, any_from, optional_from, IsReadBack, Any, Falls, accepts_it, truth_back, anything, optional_place, IsLawful, lawful, plainly, puts_value, puts_default, ◌▸◌, no_more, number_tree, PlaceHas, EachPlace, list_plain, parameters_law, ℕ, pos, ◌^◌, ◌<◌, nat_lt, ltb-true, Bool, true, false, ◌&&◌, if◌then◌else◌, option_map, unwrap_or, Result, Ok, Err, OnOk, sym, ap, IfPresent, ReadIsCoherent, size_from, option_place, rows_back, size_back, aaguid_back, list_same, byte_back, word_back, text_back, bytes_back, transport_back, list_back, optional_back, all_of_anything, accepted_place, and_parts, AtMostOneLeadingItem, WrittenIsLeadingItem, WrittenIsCanonical}
+use Rattle.std.proofs.Common.{ℕ, List, Bool, ◌<◌, ◌^◌, is_ok, IfErr, [], ◌∷◌}
 use Rattle.passkey_cbor.specs.Item.{number, boolean, byte_string}
+use Rattle.passkey_ctap2.proofs.Messages.{KeepsIn, keeps_in, read_coherent}
 use Rattle.passkey_ctap2.specs.Encodable.{encodable_places}
-use Rattle.passkey_ctap2.specs.GetInfo.{version, version_tree, normal_version, extension, extension_tree, normal_extension, options, unless_null, GetInfoParts, get_info_places, get_info_fields, read_get_info, get_info_tree, IsPositive, GetInfoFits, is_encodable, has_room, is_get_info_coherent, normal_get_info, get_info_kept}
+use Rattle.passkey_ctap2.specs.GetInfo.{version, version_tree, normal_version, extension, extension_tree, normal_extension, options, unless_null, GetInfoParts, get_info, get_info_fields, get_info_tree, IsPositive, GetInfoFits, is_encodable, is_get_info_coherent, normal_get_info, get_info_kept}
 use Rattle.passkey_kinds.specs.Kind.{IsSize}
+use Rattle.passkey_kinds.specs.Numbered.{has_room, is_shallow}
+use Rattle.passkey_kinds.specs.Words.{WrittenIsReadBack, read_item}
 use Rattle.passkey_kinds.specs.declared.fault.WriteFault.{WriteFault}
 use Rattle.passkey_kinds.specs.declared.fault.WriteFault.TheVariants.{NumberTooLarge}
 use Rattle.passkey_cbor.specs.Item as item
@@ -59,24 +62,19 @@ options_law = lawful 0 options (λ o. refl) (λ o. refl) (λ o. refl) (λ k o. s
 
 -- ---- the certifications that a response keeps, and what is encoded around them
 
-certifications_only : OnlyAt 2 get_info_places (number_tree 19) (λ r. option_map (λ i. i) r.certifications)
+get_info_law : KeepsIn get_info (λ i. i) (λ i. i ∷ []) (λ r. r.certifications)
 unfolding shortest_head
-certifications_only = record {
-  keyed = search plainly;
-  ascends = λ r. refl;
-  each = λ Q rule r here.
-      let certifications : PlaceHas Q (number_tree 19) r.certifications = rw option_same at here in
-      search (rule.holds, plainly, list_plain 1, options_law.plain 1, parameters_law.plain 0) depth 33;
-  this = λ Q r each. let places : EachPlace Q (get_info_places r) = each in rw option_same (search);
-}
+get_info_law = keeps_in item_around get_info (λ r. r.certifications) 2 19 (omega arith) (omega arith) (omega arith)
+    (λ r. refl)
+    (λ Q rule r here.
+    let certifications : PlaceHas Q (number_tree 19) r.certifications = rw option_same at here in
+    search (rule.holds, plainly, list_plain 1, options_law.plain 1, parameters_law.plain 0) depth 33)
+    (λ Q r each. let places : EachPlace Q (places_of get_info.members r) = each in rw option_same (search))
+    (λ m. tt) (λ m i few. search (optional_keeps item_around) depth 40 parts 40)
 
 pub encodable_keys : KeysAscend encodable_places
 unfolding shortest_head
 encodable_keys e = keys_ascend (encodable_places e) refl
-
-response_around : Around (record_kind get_info_fields) get_info_tree get_info_kept 1 3
-response_around = around item_around get_info_fields (λ r. r.certifications) certifications_only
-    (λ n. tt) (λ n i few. search (optional_keeps item_around) depth 40 parts 40)
 
 -- ---- an encoding can be decoded again
 
@@ -84,10 +82,10 @@ sized : (o : Option ℕ) → IfPresent IsPositive o → is_encodable o ≡ true 
 sized None h e = tt
 sized (Some n) h e = (h, ltb-true n (2 ^ 64) e)
 
-pub response_back : (r : GetInfoParts) → GetInfoFits r → is_encodable r.max_msg_size ≡ true
-    → read_get_info (get_info_tree r) ≡ Ok (normal_get_info r)
+response_back : (r : GetInfoParts) → GetInfoFits r → is_encodable r.max_msg_size ≡ true
+    → read_item get_info_fields (get_info_tree r) ≡ Ok (normal_get_info r)
 response_back r fits encoded =
-    rows_back get_info_fields (get_info_places r) (normal_get_info r) refl refl
+    rows_back get_info_fields (places_of get_info.members r) (normal_get_info r) refl refl
     (
     puts_value (list_back version_back) r.versions (λ k d less. tt) ▸
     puts_default (option_place (optional_back (list_back extension_back) refl) r.extensions
@@ -110,18 +108,18 @@ response_back r fits encoded =
     flag_row _ refl ▸ bytes_row _ refl ▸ word_row _ (search) refl ▸
     no_more)
 
+pub get_info_read_back : WrittenIsLeadingItem
+    → WrittenIsReadBack (read_item get_info_fields) get_info_tree GetInfoFits is_get_info_coherent normal_get_info
+get_info_read_back front = back_if_good (read_item get_info_fields) get_info_tree GetInfoFits normal_get_info
+    (λ r. is_encodable r.max_msg_size) front response_back
+
 -- ---- only the certifications may have many levels
 
-certifications_levels : OnlyDeep get_info_places (λ i. i) (λ r. r.certifications) 255
-certifications_levels = only_deep 255 (omega arith) certifications_only
-
-room_decides : (r : GetInfoParts) → has_room r.certifications ≡ nat_le (depth (get_info_tree r)) max_depth
+room_decides : (r : GetInfoParts) → has_room r.certifications ≡ is_shallow get_info r
 room_decides r = by_cases r.certifications refl where
-  by_cases : (o : Option Item) → r.certifications ≡ o → has_room o ≡ nat_le (depth (get_info_tree r)) max_depth
-  by_cases None is = certifications_levels.absent r is
-  by_cases (Some i) is = same_as i ∙ certifications_levels.present r i is where
-    same_as : (i : Item) → nat_lt (depth i) 256 ≡ nat_le (depth i) 255
-    same_as i = grind (arith, nat_tests)
+  by_cases : (o : Option Item) → r.certifications ≡ o → has_room o ≡ is_shallow get_info r
+  by_cases None is = get_info_law.levels.absent r is
+  by_cases (Some i) is = get_info_law.levels.present r i is
 
 pub parts_decide : (r : GetInfoParts)
     → (is_encodable r.max_msg_size && has_room r.certifications) ≡ is_get_info_coherent r
@@ -149,19 +147,13 @@ encoded_item _ = refl
 size_good : (i : Item) (o : Option ℕ) → optional_from size_from i ≡ Some o → is_encodable o ≡ true
 size_good i o e = grind (arith, encoded_item)
 
-abbrev SizeIsGood : GetInfoParts → Type 0
-SizeIsGood r = is_encodable r.max_msg_size ≡ true
-
-pub get_info_coherent : ReadIsCoherent read_get_info is_get_info_coherent
-get_info_coherent bytes r begins =
-    let good = record_keeps get_info_fields SizeIsGood begins.item r begins.holds (λ d. refl)
-    (search size_good depth 40 parts 40) in
-    and_from (is_encodable r.max_msg_size) (nat_le (depth (get_info_tree r)) max_depth) good
-    (decoded_few get_info_fields response_around (omega arith) (omega arith) bytes r begins)
+pub get_info_coherent : ReadIsCoherent (read_item get_info_fields) is_get_info_coherent
+get_info_coherent = read_coherent get_info (λ r. is_encodable r.max_msg_size) get_info_law.coherent refl
+    (λ i. search size_good depth 40 parts 40)
 
 -- ---- the encodings of authenticatorGetInfo responses are canonical
 
 pub get_info_canonical : AtMostOneLeadingItem → WrittenIsLeadingItem
     → WrittenIsCanonical get_info_tree is_get_info_coherent get_info_kept
-get_info_canonical one front = canonical_around one front response_around
-    (λ r coherent. leb-true _ _ (and_parts (is_encodable r.max_msg_size) _ coherent).1)
+get_info_canonical one front r w coherent = get_info_law.canonical one front r w
+    (and_parts (is_encodable r.max_msg_size) (is_shallow get_info r) coherent).1

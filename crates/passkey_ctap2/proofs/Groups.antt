@@ -3,7 +3,7 @@ use Rattle.passkey_kinds.proofs.Steps.{◌≡◌, ◌==◌, ◌++◌, ℕ, Bool,
 use Rattle.std.specs.Prelude.{[], ◌∷◌}
 use Rattle.passkey_kinds.specs.Placed.{Placed, fields_with, members_of}
 use Rattle.passkey_kinds.specs.Record.{accepts_at, put_at, rows_of, takes_at}
-use Rattle.passkey_kinds.specs.RecordReading.{Puts, cost_at, keeps_at, shape_at}
+use Rattle.passkey_kinds.specs.RecordReading.{Puts}
 use Rattle.passkey_kinds.specs.declared.fault.Refusal.{Refusal}
 
 module _ {P : Type 0} where
@@ -12,18 +12,15 @@ module _ {P : Type 0} where
   IsNone [] n = Unit {0}
   IsNone (m ∷ ms) n = ((m.member.entry.number == n) ≡ false) × IsNone ms n
 
-  -- what all these tables say of the number is what the members after it say
+  -- what these tables say of the number is what the members after it say
   abbrev SameBehind : List (Placed P) → List (Placed P) → ℕ → Type 0
   SameBehind ms rest n =
       ((i : Item) → accepts_at (rows_of (members_of (ms ++ rest))) n i ≡ accepts_at (rows_of (members_of rest)) n i)
       × ((i : Item) (old : P) → put_at (members_of (ms ++ rest)) n i old ≡ put_at (members_of rest) n i old)
       × (takes_at (rows_of (members_of (ms ++ rest))) n ≡ takes_at (rows_of (members_of rest)) n)
-      × (cost_at (members_of (ms ++ rest)) n ≡ cost_at (members_of rest) n)
-      × (keeps_at (members_of (ms ++ rest)) n ≡ keeps_at (members_of rest) n)
-      × (shape_at (members_of (ms ++ rest)) n ≡ shape_at (members_of rest) n)
 
-  pub same_behind : (ms rest : List (Placed P)) (n : ℕ) → IsNone ms n → SameBehind ms rest n
-  same_behind [] rest n none = (λ i. refl, λ i old. refl, refl, refl, refl, refl)
+  same_behind : (ms rest : List (Placed P)) (n : ℕ) → IsNone ms n → SameBehind ms rest n
+  same_behind [] rest n none = (λ i. refl, λ i old. refl, refl)
   same_behind (m ∷ ms) rest n none = rw none.0 (same_behind ms rest n none.1)
 
   pub puts_behind : (is_numbered : Bool) (blank : P) (ms rest : List (Placed P)) (n : ℕ) (i : Item) (old new : P)
@@ -31,5 +28,4 @@ module _ {P : Type 0} where
       → Puts (fields_with is_numbered blank rest) n i old new result
       → Puts (fields_with is_numbered blank (ms ++ rest)) n i old new result
   puts_behind is_numbered blank ms rest n i old new result none h =
-      let same = same_behind ms rest n none in
-      grind (arith, same.0 i, same.1 i old, same.2)
+      let same = same_behind ms rest n none in grind (arith, same.0 i, same.1 i old, same.2)

@@ -1,13 +1,13 @@
 -- authenticatorGetInfo responses, their options and the names in them (CTAP 2.1, section 6.4).
-use Rattle.std.specs.Prelude.{ℕ, List, [], ◌∷◌, Some, codes, unwrap_or, Bool, ◌++◌, Option, true, false, None, ◌<◌, ◌^◌, nat_lt, nat_le, ◌&&◌, if◌then◌else◌, map, replicate, Result, option_map}
+use Rattle.std.specs.Prelude.{ℕ, List, [], ◌∷◌, Some, codes, unwrap_or, Bool, ◌++◌, Option, true, false, None, ◌<◌, ◌^◌, nat_lt, ◌&&◌, if◌then◌else◌, map, replicate, option_map}
 use Rattle.passkey_ctap2.specs.declared.get_info.extension.Extension.{Extension}
 use Rattle.passkey_ctap2.specs.declared.get_info.options.Options.{Options}
 use Rattle.passkey_ctap2.specs.declared.get_info.response.Response.{Response}
 use Rattle.passkey_ctap2.specs.declared.get_info.version.Version.{Version}
 use Rattle.passkey_kinds.specs.Coded.{truth, text, bytes, aaguid, list_of, accepted_of}
 use Rattle.passkey_kinds.specs.Kind.{name_from}
-use Rattle.passkey_kinds.specs.Words.{byte, item, word, transport, plain, Coded, placed_if, kept_if_some, Item, text_string, Any, Kind, text_as, Placed, PlainTable, default_as, optional_as, depth, null, max_depth, item_of, IfPresent, parameters, placed, required_at, optional_at, tolerated_at, places_of, EachFits, fields_with, Fields, default, read_item, Place, number_tree, record_tree, size, optional, PublicKeyCredentialParameters, AuthenticatorTransport}
-use Rattle.passkey_kinds.specs.declared.fault.Fault.{Fault}
+use Rattle.passkey_kinds.specs.Numbered.{is_shallow, numbered_fields}
+use Rattle.passkey_kinds.specs.Words.{byte, item, word, transport, plain, Coded, placed_if, kept_if_some, Item, text_string, Any, Kind, text_as, Placed, PlainTable, default_as, optional_as, null, item_of, IfPresent, parameters, placed, plain_tree, required_at, optional_at, tolerated_at, EachFits, Fields, default, number_tree, size, optional, PublicKeyCredentialParameters, AuthenticatorTransport}
 use Rattle.passkey_kinds.specs.declared.fault.WriteFault.{WriteFault}
 use Rattle.passkey_kinds.specs.declared.fault.WriteFault.TheVariants.{OutOfMemory, NumberTooLarge}
 use Rattle.passkey_webauthn.specs.Names.{named_in}
@@ -290,24 +290,17 @@ last_members =
     ∷ optional_at 29 (codes "maxPinLength") word (λ r. r.max_pin_length) (λ x r. record r { max_pin_length = x })
     ∷ []
 
--- ---- decoding
+abbrev pub get_info : PlainTable GetInfoParts
+get_info = record { blank = get_info_empty; members = first_members ++ middle_members ++ last_members }
 
+-- how a response is decoded
 abbrev pub get_info_fields : Fields GetInfoParts
-get_info_fields = fields_with true get_info_empty (first_members ++ middle_members ++ last_members)
+get_info_fields = numbered_fields get_info
 
--- the response that a data item decodes to, or its first fault
-abbrev pub read_get_info : Item → Result GetInfoParts Fault
-read_get_info = read_item get_info_fields
-
--- ---- encoding
-
-abbrev pub get_info_places : GetInfoParts → List Place
-get_info_places = places_of (first_members ++ middle_members ++ last_members)
-
+-- the data item that a response is encoded as, and what it keeps undecoded of it
 abbrev pub get_info_tree : GetInfoParts → Item
-get_info_tree r = record_tree (get_info_places r)
+get_info_tree = plain_tree get_info
 
--- the data item that a response keeps undecoded, if there is one
 abbrev pub get_info_kept : GetInfoParts → List Item
 get_info_kept r = kept_if_some (λ i. i ∷ []) r.certifications
 
@@ -326,14 +319,9 @@ is_encodable (Some n) = nat_lt n (2 ^ 64)
 abbrev pub fault_of_size : Option ℕ → WriteFault
 fault_of_size size = if is_encodable size then OutOfMemory else NumberTooLarge
 
--- the item has fewer than `max_depth` nesting levels, so that a message may contain it
-abbrev pub has_room : Option Item → Bool
-has_room None = true
-has_room (Some i) = nat_lt (depth i) max_depth
-
 -- the size can be encoded, and the encoding has at most `max_depth` nesting levels
 abbrev pub is_get_info_coherent : GetInfoParts → Bool
-is_get_info_coherent r = is_encodable r.max_msg_size && nat_le (depth (get_info_tree r)) max_depth
+is_get_info_coherent r = is_encodable r.max_msg_size && is_shallow get_info r
 
 -- null decodes to `None`
 abbrev pub unless_null : Item → Option Item

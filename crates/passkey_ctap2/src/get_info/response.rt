@@ -1,11 +1,12 @@
 //! authenticatorGetInfo responses.
 ghost use Rattle.std.specs.Prelude.{◌≡◌, ◌^◌, ◌++◌, ℕ, is_ok, true, false, option_map, IfOk, IfErr, OnOk};
 ghost use Rattle.std.specs.Int.NonZero.{non_zero_u128_get};
-ghost use Rattle.passkey_kinds.specs.Words.{KeysAscend, Item, item_of, IsWritable, written, IfPresent, ReadsMessage, ReadsHere, GrowsMessage, EachFits, fields_with, places_of, MayGrowAt, Reads, cost_at, keeps_at, shape_at, Puts, AllAccepted, put_all, number_tree, table_of};
+ghost use Rattle.passkey_kinds.specs.Words.{KeysAscend, Item, item_of, IsWritable, written, IfPresent, ReadsHere, EachFits, fields_with, places_of, cost_at, keeps_at, shape_at, Puts, AllAccepted, put_all, number_tree};
+ghost use Rattle.passkey_kinds.specs.Numbered.{has_room};
+ghost use Rattle.passkey_ctap2.specs.Calls.{ReadsItem, ReadsSlice};
 ghost use Rattle.passkey_ctap2.specs.Encodable.{EncodableFits, encodable_first_members, encodable_parts, encodable_places};
-ghost use Rattle.passkey_ctap2.specs.GetInfo.{GetInfoParts, first_members, middle_members, last_members, get_info_fields, read_get_info, get_info_empty, get_info_parts, get_info_tree, IsPositive, GetInfoFits, is_encodable, fault_of_size, has_room, is_get_info_coherent};
+ghost use Rattle.passkey_ctap2.specs.GetInfo.{GetInfoParts, first_members, middle_members, last_members, get_info_fields, get_info_empty, get_info_parts, get_info_tree, IsPositive, GetInfoFits, is_encodable, fault_of_size, is_get_info_coherent};
 ghost use Rattle.passkey_kinds.specs.Placed.{members_of};
-ghost use Rattle.passkey_kinds.specs.declared.fault.Fault.TheVariants.{OutOfMemory as NoRoom};
 ghost use Rattle.passkey_kinds.specs.declared.fault.WriteFault.TheVariants.{NumberTooLarge as TooLarge};
 
 use crate::get_info::{Extension, Options, Version};
@@ -255,39 +256,26 @@ impl Response {
 
     /// Decodes the response at the beginning of the bytes, and returns it with its length in bytes.
     /// The bytes begin with its map: there is no status byte before it. Bytes after it are ignored.
-    ///
-    /// Returns `DecodeFailed` exactly if the bytes don't begin with a well-formed data item of at
-    /// most 256 nesting levels, and `NotAMap` if the item isn't a map; otherwise the first fault of
-    /// its members in their order (`BadKey`, `Repeated`, `Refused`), or else `Missing` for the
-    /// first required member that is absent. Returns `OutOfMemory` if an allocation fails, which
-    /// can only happen for a member that takes memory.
+    /// The faults are those of `Message::from_slice`.
     pub fn from_slice(alloc: Global, bytes: &[u8]) -> Result<(Response, usize), Fault>
-        ensures reads { ReadsMessage get_info_parts read_get_info bytes.now result }
-        ensures grows { result ≡ Err NoRoom → GrowsMessage get_info_fields bytes.now }
+        ensures { ReadsSlice get_info_parts get_info_fields bytes.now result }
     {
         message_from_slice(alloc, bytes)
     }
 
     /// Decodes the response at the cursor, head by head and without building a data item for the
-    /// whole, and moves past it. Returns `DecodeFailed` exactly if no well-formed data item of at
-    /// most 256 nesting levels is there; otherwise the fault that `from_value` returns for the
-    /// item. Returns `OutOfMemory` if an allocation fails, which can only happen for a member that
-    /// takes memory. On an error the cursor stays, and its counts include what was spent.
+    /// whole, and moves past it. The faults are those of `Message::read`.
     pub fn read(alloc: Global, cursor: &mut Cursor<'_>) -> Result<Response, Fault>
         ensures { ReadsHere get_info_parts get_info_fields 8 cursor.old cursor.new result }
     {
         read_message(alloc, cursor)
     }
 
-    /// Decodes the response from a data item. Returns `NotAMap` if the item isn't a map; otherwise
-    /// the first fault of its members in their order (`BadKey`, `Repeated`, `Refused`), or else
-    /// `Missing` for the first required member that is absent. Returns `OutOfMemory` if an
-    /// allocation fails, which can only happen for a member that takes memory. Skips unknown
-    /// members. In the lists 0x09, 0x0A, 0x15, 0x16 and 0x1A, elements that can't be decoded are
-    /// dropped, and a value that isn't an array decodes to `None`.
+    /// Decodes the response from a data item. Skips unknown members. In the lists 0x09, 0x0A, 0x15,
+    /// 0x16 and 0x1A, elements that can't be decoded are dropped, and a value that isn't an array
+    /// decodes to `None`. The faults are those of `Message::from_value`.
     pub fn from_value(alloc: Global, value: &Value) -> Result<Response, Fault>
-        ensures { Reads get_info_parts (MayGrowAt (table_of get_info_fields) (item_of value.now))
-            (read_get_info (item_of value.now)) result }
+        ensures { ReadsItem get_info_parts get_info_fields (item_of value.now) result }
     {
         record_from_value(alloc, value)
     }
@@ -441,6 +429,7 @@ impl ToCborMap for Encodable<'_> {
         self.put_last_members(alloc, sink)
     }
 
+    #[tactic(auto, using(crate::proofs::GetInfos::encodable_keys))]
     fn ordered()
         ensures { KeysAscend encodable_places }
     {}

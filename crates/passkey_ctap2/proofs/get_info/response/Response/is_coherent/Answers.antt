@@ -1,6 +1,7 @@
 use Rattle.passkey_kinds.proofs.Common.{◌∙◌, Bool, ◌&&◌, option_map, ap, sym}
 use Rattle.std.specs.Int.NonZero.{non_zero_u128_get}
-use Rattle.passkey_ctap2.specs.GetInfo.{is_encodable, has_room, get_info_parts}
+use Rattle.passkey_kinds.specs.Numbered.{has_room}
+use Rattle.passkey_ctap2.specs.GetInfo.{is_encodable, get_info_parts}
 use Rattle.passkey_ctap2.proofs.GetInfos.{told, parts_decide}
 use Rattle.passkey_ctap2.proofs.get_info.response.Response.is_coherent.Goals as goal
 
