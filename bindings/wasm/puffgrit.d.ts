@@ -26,12 +26,23 @@ export interface AuthParts {
   end: number;
 }
 
-/** The calls of a module; none changes the bytes. Null means that nothing is there. */
+/**
+ * The calls of a module; none changes the bytes. Null means that nothing is there. Each call throws a TypeError if an argument has
+ * another type, and a RangeError if an offset is no integer from 0 to 2 ** 53 - 1; one after the last byte is where nothing is.
+ */
 export interface Puffgrit {
+  /** The length in bytes of the data item at the beginning; 0 if no well-formed item of at most 256 levels is there. */
   itemLen(bytes: Uint8Array): number;
+  /** Whether the bytes are exactly one data item in CTAP2's canonical form (CTAP 2.1, section 8). */
   isCanonical(bytes: Uint8Array): boolean;
+  /** The data item at the offset. */
   itemAt(bytes: Uint8Array, offset: number): Item | null;
+  /**
+   * The value of the first member with this key in the map at the offset. An integer key has at most 64 bits, and is a bigint if it
+   * is beyond 2 ** 53 - 1; else a RangeError is thrown.
+   */
   member(bytes: Uint8Array, map: number, key: number | bigint | string): Item | null;
+  /** The parts of the authenticator data at the beginning. */
   authParts(bytes: Uint8Array): AuthParts | null;
 }
 

@@ -1,7 +1,8 @@
 // Data items of CBOR and authenticator data, looked at by proved code (crates/passkey_look_c) as WebAssembly.
 //
 // Bytes are a Uint8Array, which is copied into the module's memory for each call; offsets and lengths are numbers, and an item's
-// number is a BigInt. What isn't there is null. The module needs a memory of 64 bits, or puffgrit_32.wasm one of 32.
+// number is a BigInt. What isn't there is null. An argument of another type is a TypeError, and a number that is no offset, or no
+// integer of 64 bits as a key, a RangeError. The module needs a memory of 64 bits, or puffgrit_32.wasm one of 32.
 
 /** The number of a string, an array or a map of indefinite length. */
 export const INDEFINITE = 2n ** 64n - 1n;
@@ -10,6 +11,32 @@ export const INDEFINITE = 2n ** 64n - 1n;
 export const UNSIGNED = 0, NEGATIVE = 1, BYTES = 2, TEXT = 3, ARRAY = 4, MAP = 5, TAG = 6, SIMPLE = 7, FLOAT = 8;
 
 const PAGE = 65536, ITEM = 40, PARTS = 56;
+
+/** What kind of typed array `this` is, whatever its prototype, and whichever page made it; undefined if it is none. */
+const arrayKind = Object.getOwnPropertyDescriptor(Object.getPrototypeOf(Uint8Array.prototype), Symbol.toStringTag).get;
+
+function checkBytes(bytes) {
+  if (arrayKind.call(bytes) !== "Uint8Array") throw new TypeError("bytes have to be a Uint8Array");
+}
+
+/** An offset, for the module. */
+function offsetGiven(offset) {
+  if (typeof offset !== "number") throw new TypeError("an offset has to be a number");
+  if (!Number.isSafeInteger(offset) || offset < 0) throw new RangeError("an offset has to be an integer from 0 to 2 ** 53 - 1");
+  return BigInt(offset);
+}
+
+/** A key that is no text, for the module. */
+function keyGiven(key) {
+  if (typeof key !== "number" && typeof key !== "bigint") throw new TypeError("a key has to be a number, a BigInt or a string");
+  if (typeof key === "number" && !Number.isSafeInteger(key)) throw new RangeError("a key has to be an integer, and a BigInt beyond 2 ** 53 - 1");
+  const integer = BigInt(key);
+  if (BigInt.asIntN(64, integer) !== integer) throw new RangeError("a key has to be from -(2n ** 63n) to 2n ** 63n - 1n");
+  return integer;
+}
+
+/** Whether UTF-8, and so a text of CBOR, can have this string: no surrogate in it is without its other half. */
+const isText = (text) => !/\p{Surrogate}/u.test(text);
 
 /** Returns the calls of a module: of its bytes, or of a WebAssembly.Module. */
 export async function load(source) {
@@ -22,6 +49,7 @@ export async function load(source) {
     const places = [];
     let place = base;
     for (const part of parts) {
+      checkBytes(part);
       places.push(place);
       place += Math.ceil(part.length / 8) * 8;
     }
@@ -63,7 +91,7 @@ export async function load(source) {
     /** The data item at an offset. */
     itemAt(bytes, offset) {
       const [place, out] = put([bytes], ITEM);
-      return is(calls.puffgrit_item_at(...slice(place, bytes), BigInt(offset), BigInt(out))) ? itemHere(out) : null;
+      return is(calls.puffgrit_item_at(...slice(place, bytes), offsetGiven(offset), BigInt(out))) ? itemHere(out) : null;
     },
 
     /** The value of the first member with this key, an integer or a text, in the map at an offset. */
@@ -71,11 +99,11 @@ export async function load(source) {
       if (typeof key === "string") {
         const name = new TextEncoder().encode(key);
         const [place, named, out] = put([bytes, name], ITEM);
-        const found = calls.puffgrit_named(...slice(place, bytes), BigInt(map), ...slice(named, name), BigInt(out));
-        return is(found) ? itemHere(out) : null;
+        const found = calls.puffgrit_named(...slice(place, bytes), offsetGiven(map), ...slice(named, name), BigInt(out));
+        return is(found) && isText(key) ? itemHere(out) : null;
       }
       const [place, out] = put([bytes], ITEM);
-      return is(calls.puffgrit_member(...slice(place, bytes), BigInt(map), BigInt(key), BigInt(out))) ? itemHere(out) : null;
+      return is(calls.puffgrit_member(...slice(place, bytes), offsetGiven(map), keyGiven(key), BigInt(out))) ? itemHere(out) : null;
     },
 
     /** The parts of authenticator data by their offsets, 0 for one that is absent (WebAuthn Level 3, section 6.1). */

@@ -37,6 +37,27 @@ assert.deepEqual(calls.member(map, 1, "a"), { kind: 2, number: INDEFINITE, from:
 assert.equal(calls.member(map, 1, 99), null);
 assert.equal(calls.member(map, 0, 99), null);
 assert.equal(calls.itemAt(map, 15), null);
+assert.equal(calls.itemAt(map, 2 ** 53 - 1), null);
+assert.equal(calls.member(bytesOf("a1 3b7fffffffffffffff 05"), 0, -(2n ** 63n)).number, 5n);
+assert.equal(calls.itemLen(Buffer.from(map.subarray(1))), 15);
+
+// arguments of another type, and numbers that are out of range; a string that is no text of CBOR
+const keyed = bytesOf("a2 01 05 63 efbfbd 06");
+const withBytes = [calls.itemLen, calls.isCanonical, (it) => calls.itemAt(it, 0), (it) => calls.member(it, 0, 1), (it) => calls.member(it, 0, "a"), calls.authParts];
+const noBytes = ["a10105", [0xa1, 1, 5], keyed.buffer, new Uint16Array(3), new DataView(keyed.buffer), { length: 3 }, 3, null, undefined];
+withBytes.forEach((call) => noBytes.forEach((it) => assert.throws(() => call(it), TypeError)));
+const withOffset = [(it) => calls.itemAt(keyed, it), (it) => calls.member(keyed, it, 1), (it) => calls.member(keyed, it, "a")];
+for (const call of withOffset) {
+  for (const offset of ["0", 0n, false, [], null, undefined]) assert.throws(() => call(offset), TypeError, String(offset));
+  for (const offset of [-1, 0.5, NaN, Infinity, 2 ** 53, 2 ** 64]) assert.throws(() => call(offset), RangeError, String(offset));
+}
+for (const key of [true, [1], {}, null, undefined]) assert.throws(() => calls.member(keyed, 0, key), TypeError, String(key));
+for (const key of [2n ** 64n + 1n, 2n ** 63n, -(2n ** 63n) - 1n, 2 ** 53, -(2 ** 53), 1.5, NaN, Infinity]) {
+  assert.throws(() => calls.member(keyed, 0, key), RangeError, String(key));
+}
+assert.equal(calls.member(keyed, 0, 1).number, 5n);
+assert.equal(calls.member(keyed, 0, "\ufffd").number, 6n);
+assert.equal(calls.member(keyed, 0, "\ud800"), null);
 
 // authenticator data: an assertion's, 37 bytes; and with AT, an id of two bytes, an empty key, and ED, extensions {"a": 1}
 const assertion = bytesOf("11".repeat(32) + "05" + "00000102");
