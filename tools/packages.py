@@ -92,7 +92,7 @@ def npm(to, version):
 
 
 def python_source(to, project):
-    """The Python package without the library: PUFFGRIT_LIBRARY names that."""
+    """The Python package without the library: it is installed with the one that PUFFGRIT_LIBRARY names, or over the system's."""
     files = folder(BINDINGS / "python", [".py", ".toml", ".md", ".typed"])
     metadata = METADATA.format(**project).encode() + files["README.md"]
     top = f"{project['name']}-{project['version']}"

@@ -1,28 +1,40 @@
 """Messages of CTAP2 and WebAuthn, decoded, checked and encoded again, and CBOR data items (RFC 8949) and authenticator data
 (WebAuthn Level 3, section 6.1), looked at in place, by proved code.
 
-The library is libpuffgrit.so beside this file, or the one that the environment variable PUFFGRIT_LIBRARY names. A call lets other
-threads run, so its bytes have to be `bytes`, which no thread can change.
+The library is the one that the environment variable PUFFGRIT_LIBRARY names, or else libpuffgrit.so beside this file, or else the
+system's libpuffgrit.so.2. A call lets other threads run, so its bytes have to be `bytes`, which no thread can change.
 """
 
 from __future__ import annotations
 
 import ctypes
 import json
-import os
+import operator
 from dataclasses import dataclass
-from pathlib import Path
-from typing import Iterator
+from typing import Any, Callable, Final, Iterator
 
+from . import _c
 from ._kinds import DECODED, EXPLAINED, KINDS
 
 __all__ = [
-    "DECODED", "EXPLAINED", "KINDS", "AuthData", "Fault", "Item", "auth_parts", "decode", "decode_front", "elements", "explain",
-    "is_canonical", "item_at", "item_len", "member", "rewrite", "rewrite_front", "version",
+    "ARRAY", "BYTES", "DECODED", "EXPLAINED", "FLOAT", "INDEFINITE", "KINDS", "MAP", "NEGATIVE", "SIMPLE", "TAG", "TEXT", "UNSIGNED",
+    "AuthData", "Fault", "Item", "auth_parts", "decode", "decode_front", "elements", "explain", "is_canonical", "item_at", "item_len",
+    "member", "rewrite", "rewrite_front", "version",
 ]  # fmt: skip
 
-UNSIGNED, NEGATIVE, BYTES, TEXT, ARRAY, MAP, TAG, SIMPLE, FLOAT = range(9)
-INDEFINITE = 2**64 - 1
+# The types of data items: the major types (RFC 8949, section 3.1), and one for floats.
+UNSIGNED: Final = 0
+NEGATIVE: Final = 1
+BYTES: Final = 2
+TEXT: Final = 3
+ARRAY: Final = 4
+MAP: Final = 5
+TAG: Final = 6
+SIMPLE: Final = 7
+FLOAT: Final = 8
+
+#: The number of a string, an array or a map of indefinite length.
+INDEFINITE: Final = 2**64 - 1
 
 _FAULTS = {
     16: "DecodeFailed",
@@ -39,44 +51,8 @@ _FAULTS = {
 }
 
 
-class _Item(ctypes.Structure):
-    _fields_ = [("number", ctypes.c_uint64), ("start", ctypes.c_size_t), ("content", ctypes.c_size_t), ("end", ctypes.c_size_t), ("kind", ctypes.c_uint32)]
-
-
-class _AuthData(ctypes.Structure):
-    _fields_ = [(it, ctypes.c_size_t) for it in ["aaguid", "credential_id", "credential_id_len", "public_key", "extensions", "end"]]
-    _fields_ += [("counter", ctypes.c_uint32), ("flags", ctypes.c_uint32)]
-
-
-class _Refusal(ctypes.Structure):
-    _fields_ = [("offset", ctypes.c_size_t), ("length", ctypes.c_size_t)]
-
-
-_BUFFER = [ctypes.c_char_p, ctypes.c_size_t]
-_LENGTH = ctypes.POINTER(ctypes.c_size_t)
-
-
-def _load() -> ctypes.CDLL:
-    library = ctypes.CDLL(os.environ.get("PUFFGRIT_LIBRARY") or str(Path(__file__).with_name("libpuffgrit.so")))
-    item, given, output = ctypes.POINTER(_Item), [ctypes.c_uint32, *_BUFFER, _LENGTH], [*_BUFFER, _LENGTH]
-    for name, result, arguments in [
-        ("version", ctypes.c_uint32, []),
-        ("item_len", ctypes.c_size_t, _BUFFER),
-        ("is_canonical", ctypes.c_bool, _BUFFER),
-        ("item_at", ctypes.c_bool, [*_BUFFER, ctypes.c_size_t, item]),
-        ("member", ctypes.c_bool, [*_BUFFER, ctypes.c_size_t, ctypes.c_int64, item]),
-        ("named", ctypes.c_bool, [*_BUFFER, ctypes.c_size_t, *_BUFFER, item]),
-        ("auth_parts", ctypes.c_bool, [*_BUFFER, ctypes.POINTER(_AuthData)]),
-        ("rewrite", ctypes.c_uint32, [*given, *output]),
-        ("json", ctypes.c_uint32, [*given, *output]),
-        ("explain", ctypes.c_uint32, [*given, ctypes.POINTER(_Refusal), *output]),
-    ]:
-        call = getattr(library, f"puffgrit_{name}")
-        call.restype, call.argtypes = result, arguments
-    return library
-
-
-_library = _load()
+_library = _c.load()
+_MOST = ctypes.c_size_t(-1).value
 
 
 def _checked(data: bytes) -> bytes:
@@ -85,10 +61,18 @@ def _checked(data: bytes) -> bytes:
     return data
 
 
+def _offset(offset: int) -> int:
+    """The offset, if C has it: ctypes would pass on its last 64 bits."""
+    number = operator.index(offset)
+    if not 0 <= number <= _MOST:
+        raise OverflowError(f"an offset has to be from 0 to {_MOST}")
+    return number
+
+
 class Fault(ValueError):
     """Why an input is rejected: its first fault (docs/FAULTS.md)."""
 
-    def __init__(self, name: str, member: int | None):
+    def __init__(self, name: str, member: int | None) -> None:
         super().__init__(name if member is None else f"{name}({member})")
         #: Where in a message and why, as "user.id: a byte string is wanted (offset 58, length 10)"; `None` for other kinds.
         self.explanation: str | None = None
@@ -97,9 +81,9 @@ class Fault(ValueError):
         #: The length of what is refused in bytes.
         self.length: int | None = None
         #: The fault's name, as `Refused`; `NotAMap` of a JSON value that is no object.
-        self.name = name
+        self.name: str = name
         #: The number of the message's member that it is about.
-        self.member = member
+        self.member: int | None = member
 
 
 @dataclass(frozen=True)
@@ -154,40 +138,40 @@ class AuthData:
 
 def version() -> int:
     """The version of the library's interface."""
-    return _library.puffgrit_version()
+    return int(_library.puffgrit_version())
 
 
 def item_len(data: bytes) -> int:
     """The length of the data item at the beginning of the bytes; 0 if no well-formed one of at most 256 levels is there."""
-    return _library.puffgrit_item_len(_checked(data), len(data))
+    return int(_library.puffgrit_item_len(_checked(data), len(data)))
 
 
 def is_canonical(data: bytes) -> bool:
     """Whether the bytes are exactly one data item in CTAP2's canonical form (CTAP 2.1, section 8)."""
-    return _library.puffgrit_is_canonical(_checked(data), len(data))
+    return bool(_library.puffgrit_is_canonical(_checked(data), len(data)))
 
 
-def _seen(data: bytes, found: bool, it: _Item) -> Item | None:
+def _seen(data: bytes, found: bool, it: _c.Item) -> Item | None:
     return Item(data, it.kind, it.number, it.start, it.content, it.end) if found else None
 
 
 def item_at(data: bytes, offset: int = 0) -> Item | None:
     """The data item at the offset, or `None` if no well-formed one of at most 256 levels is there."""
-    it = _Item()
-    return _seen(data, _library.puffgrit_item_at(_checked(data), len(data), offset, ctypes.byref(it)), it)
+    it = _c.Item()
+    return _seen(data, _library.puffgrit_item_at(_checked(data), len(data), _offset(offset), ctypes.byref(it)), it)
 
 
 def member(data: bytes, key: int | str, offset: int = 0) -> Item | None:
     """The value of the first member with this key of the map at the offset, or `None`. An integer has to fit in 64 bits."""
-    it = _Item()
+    it = _c.Item()
+    given = _checked(data), len(data), _offset(offset)
     if isinstance(key, str):
         name = key.encode()
-        found = _library.puffgrit_named(_checked(data), len(data), offset, name, len(name), ctypes.byref(it))
-    elif -(2**63) <= key < 2**63:
-        found = _library.puffgrit_member(_checked(data), len(data), offset, key, ctypes.byref(it))
-    else:
+        return _seen(data, _library.puffgrit_named(*given, name, len(name), ctypes.byref(it)), it)
+    number = operator.index(key)
+    if not -(2**63) <= number < 2**63:
         raise OverflowError("a key has to fit in 64 bits")
-    return _seen(data, found, it)
+    return _seen(data, _library.puffgrit_member(*given, number, ctypes.byref(it)), it)
 
 
 def elements(data: bytes, container: Item) -> Iterator[Item]:
@@ -206,7 +190,7 @@ def elements(data: bytes, container: Item) -> Iterator[Item]:
 
 def auth_parts(data: bytes) -> AuthData | None:
     """The parts of authenticator data, or `None` if one is cut off or isn't a map where one belongs."""
-    it = _AuthData()
+    it = _c.AuthData()
     if not _library.puffgrit_auth_parts(_checked(data), len(data), ctypes.byref(it)):
         return None
     has_ids = it.aaguid != 0
@@ -228,7 +212,7 @@ def _number(kind: str, kinds: list[str] = KINDS) -> int:
     return KINDS.index(kind) + 1
 
 
-def _written(call, kind: str, data: bytes) -> tuple[bytes, int]:
+def _written(call: Callable[..., int], kind: str, data: bytes) -> tuple[bytes, int]:
     """What the call writes, and how many bytes it read; an output that is too short is replaced by one that isn't."""
     number, room = _number(kind), len(_checked(data)) + 256
     read, length = ctypes.c_size_t(), ctypes.c_size_t()
@@ -264,7 +248,7 @@ def rewrite_front(kind: str, data: bytes) -> tuple[bytes, int]:
     return _written(_library.puffgrit_rewrite, kind, data)
 
 
-def decode(kind: str, data: bytes) -> object:
+def decode(kind: str, data: bytes) -> Any:
     """What is in the data, which is of the kind (one of `DECODED`): a message, a key, authenticator data or a record
     as a dictionary.
 
@@ -274,7 +258,7 @@ def decode(kind: str, data: bytes) -> object:
     return decode_front(kind, data)[0]
 
 
-def decode_front(kind: str, data: bytes) -> tuple[object, int]:
+def decode_front(kind: str, data: bytes) -> tuple[Any, int]:
     """What `decode` returns, and how many bytes of the data were decoded."""
     _number(kind, DECODED)
     text, read = _written(_library.puffgrit_json, kind, data)
@@ -284,7 +268,7 @@ def decode_front(kind: str, data: bytes) -> tuple[object, int]:
 def explain(kind: str, data: bytes) -> Fault | None:
     """Why the data is rejected as the kind (one of `EXPLAINED`), or `None` if it isn't. Raises `MemoryError`."""
     number, room = _number(kind, EXPLAINED), 1024
-    read, length, refusal = ctypes.c_size_t(), ctypes.c_size_t(), _Refusal()
+    read, length, refusal = ctypes.c_size_t(), ctypes.c_size_t(), _c.Refusal()
     given = (number, _checked(data), len(data), ctypes.byref(read), ctypes.byref(refusal))
     while True:
         out = ctypes.create_string_buffer(room)

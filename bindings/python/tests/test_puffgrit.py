@@ -1,10 +1,13 @@
 """The package's calls, over examples of RFC 8949 and WebAuthn Level 3. Run by unittest or pytest."""
 
+import os
 import unittest
 from concurrent.futures import ThreadPoolExecutor
 from pathlib import Path
+from unittest import mock
 
 import puffgrit
+from puffgrit import _c
 
 ROOT = Path(__file__).resolve().parents[3]
 
@@ -12,6 +15,14 @@ ROOT = Path(__file__).resolve().parents[3]
 class Puffgrit(unittest.TestCase):
     def test_version(self):
         self.assertEqual(puffgrit.version(), 2)
+
+    def test_library(self):
+        # the library as one of another version, a file that isn't there, and another library
+        with mock.patch.dict(os.environ, PUFFGRIT_LIBRARY=puffgrit._library._name), mock.patch.object(_c, "VERSION", 3):
+            self.assertRaisesRegex(ImportError, "has version 2 .* version 3 is needed", _c.load)
+        for place in ["/nowhere/libpuffgrit.so.2", "libc.so.6"]:
+            with mock.patch.dict(os.environ, PUFFGRIT_LIBRARY=place):
+                self.assertRaisesRegex(ImportError, "name it in PUFFGRIT_LIBRARY", _c.load)
 
     def test_lengths(self):
         self.assertEqual(puffgrit.item_len(bytes.fromhex("9f1801ff00")), 4)
@@ -108,8 +119,18 @@ class Puffgrit(unittest.TestCase):
     def test_arguments(self):
         with self.assertRaises(TypeError):
             puffgrit.item_len(bytearray(b"\x00"))
-        with self.assertRaises(OverflowError):
-            puffgrit.member(b"\xa0", 2**63)
+        keyed = bytes.fromhex("a10105")
+        for key in [2**63, -(2**63) - 1, 2**64 + 1]:
+            self.assertRaises(OverflowError, puffgrit.member, keyed, key)
+        for key in [1.0, None, b"a"]:
+            self.assertRaises(TypeError, puffgrit.member, keyed, key)
+        for offset in [-1, 2**64, -(2**64)]:
+            self.assertRaises(OverflowError, puffgrit.item_at, keyed, offset)
+            self.assertRaises(OverflowError, puffgrit.member, keyed, 1, offset)
+            self.assertRaises(OverflowError, puffgrit.member, keyed, "a", offset)
+        for offset in ["0", 0.0, None]:
+            self.assertRaises(TypeError, puffgrit.item_at, keyed, offset)
+        self.assertIsNone(puffgrit.item_at(keyed, 2**64 - 1))
 
 
 if __name__ == "__main__":
