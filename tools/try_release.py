@@ -29,17 +29,13 @@ for (let at = list.content; at < list.end; at = puffgrit.itemAt(bytes, at).end) 
 """
 
 RUST = """\
-use puffgrit::{item_at, member, Key};
+use puffgrit::{member, Key};
 fn main() {
     let text = std::fs::read_to_string(std::env::args().nth(1).unwrap()).unwrap();
     let text = text.trim();
     let bytes: Vec<u8> = (0..text.len()).step_by(2).map(|k| u8::from_str_radix(&text[k..k + 2], 16).unwrap()).collect();
-    let list = member(&bytes, 0, Key::Number(10)).unwrap();
-    let mut at = list.content;
-    while at < list.end {
-        let algorithm = member(&bytes, at, Key::Name("alg")).unwrap();
-        println!("{}", if algorithm.kind == 1 { -1 - algorithm.number as i64 } else { algorithm.number as i64 });
-        at = item_at(&bytes, at).unwrap().end;
+    for algorithm in member(&bytes, 0, Key::Number(10)).unwrap().elements_in(&bytes) {
+        println!("{}", algorithm.member_in(&bytes, Key::Name("alg")).unwrap().integer().unwrap());
     }
 }
 """

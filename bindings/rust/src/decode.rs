@@ -1,7 +1,7 @@
 //! Inputs that are decoded as a kind, encoded again, shown as JSON and explained: what libpuffgrit has
 //! beside the calls that look.
 
-use crate::Kind;
+use crate::{Error, Fault, Kind};
 
 /// Which bytes of an input are refused.
 #[repr(C)]
@@ -15,6 +15,7 @@ pub struct Refusal {
 }
 
 extern "C" {
+    fn puffgrit_version() -> u32;
     fn puffgrit_rewrite(
         kind: u32,
         input: *const u8,
@@ -55,18 +56,11 @@ pub struct Lengths {
     pub written: usize,
 }
 
-/// Why nothing was written.
-#[derive(Clone, Copy, Debug, PartialEq, Eq)]
-pub enum Error {
-    /// The encoding has this many bytes, for which the output is too short.
-    TooShort(usize),
-    /// An allocation failed.
-    OutOfMemory,
-    /// The call doesn't have this kind.
-    UnknownKind,
-    /// The input is rejected: the status of its first fault in puffgrit.h (`PUFFGRIT_FAULT_..`), and
-    /// the number of the member that it is about, or 0.
-    Rejected { fault: u8, member: u8 },
+/// The version of the library's interface. If it isn't [`VERSION`](crate::VERSION), the library's calls
+/// aren't those of this crate.
+pub fn version() -> u32 {
+    // SAFETY: it takes nothing.
+    unsafe { puffgrit_version() }
 }
 
 /// Decodes the input as the kind, and writes its encoding to the beginning of the output: CTAP2's
@@ -84,15 +78,7 @@ fn lengths(status: u32, read: usize, len: usize) -> Result<Lengths, Error> {
     match status {
         0 => Ok(Lengths { read, written: len }),
         1 => Err(Error::TooShort(len)),
-        _ => Err(error(status)),
-    }
-}
-
-fn error(status: u32) -> Error {
-    match status {
-        2 => Error::OutOfMemory,
-        3 => Error::UnknownKind,
-        _ => Error::Rejected { fault: status as u8, member: (status >> 8) as u8 },
+        _ => Err(Error::from_status(status)),
     }
 }
 
@@ -109,9 +95,9 @@ pub fn json(kind: Kind, input: &[u8], out: &mut [u8]) -> Result<Lengths, Error> 
 /// Why an input is rejected.
 #[derive(Clone, Copy, Debug, PartialEq, Eq)]
 pub struct Explanation<'a> {
-    /// The first fault: its status in puffgrit.h, and the number of the member that it is about, or 0.
-    pub fault: u8,
-    pub member: u8,
+    pub fault: Fault,
+    /// The number of the message's member that the fault is about.
+    pub member: Option<u8>,
     pub refusal: Refusal,
     /// Where in the input and why, in ASCII; cut off where the output ends.
     pub text: &'a str,
@@ -135,8 +121,9 @@ pub fn explain<'a>(kind: Kind, input: &[u8], out: &'a mut [u8]) -> Result<Verdic
     if status == 0 {
         return Ok(Verdict::Accepted(read));
     }
-    let Error::Rejected { fault, member } = error(status) else {
-        return Err(error(status));
+    let (fault, member) = match Error::from_status(status) {
+        Error::Rejected { fault, member } => (fault, member),
+        error => return Err(error),
     };
     let text = core::str::from_utf8(&out[..len.min(room)]).unwrap_or("");
     Ok(Verdict::Rejected(Explanation { fault, member, refusal, text }))
@@ -147,13 +134,18 @@ mod tests {
     use super::*;
 
     #[test]
+    fn versions() {
+        assert_eq!(version(), crate::VERSION);
+    }
+
+    #[test]
     fn rewrites() {
         let mut out = [0; 16];
         assert_eq!(rewrite(Kind::Cbor, &[0x9f, 0x18, 0x01, 0xff, 0x00], &mut out), Ok(Lengths { read: 4, written: 2 }));
         assert_eq!(out[..3], [0x81, 0x01, 0x00]);
         assert_eq!(rewrite(Kind::Cbor, &[0x81, 0x01], &mut out[..1]), Err(Error::TooShort(2)));
-        assert_eq!(rewrite(Kind::GetAssertionRequest, &[0xa0], &mut out), Err(Error::Rejected { fault: 21, member: 1 }));
-        assert_eq!(rewrite(Kind::Request, b"{", &mut out), Err(Error::Rejected { fault: 26, member: 0 }));
+        assert_eq!(rewrite(Kind::GetAssertionRequest, &[0xa0], &mut out), Err(Error::Rejected { fault: Fault::Missing, member: Some(1) }));
+        assert_eq!(rewrite(Kind::Request, b"{", &mut out), Err(Error::Rejected { fault: Fault::BadJson, member: None }));
     }
 
     #[test]
@@ -166,7 +158,10 @@ mod tests {
         assert_eq!(explain(Kind::Request, b"{}", &mut out), Err(Error::UnknownKind));
         assert_eq!(explain(Kind::Info, info, &mut out), Ok(Verdict::Accepted(info.len())));
         assert_eq!(explain(Kind::Auth, &[0; 38], &mut out), Ok(Verdict::Accepted(37)));
-        for (given, fault, member, offset, len) in [(&info[..12], 16, 0, 12, 0), (b"\xa1\x01\x05", 20, 1, 2, 1)] {
+        for (given, fault, member, offset, len) in [
+            (&info[..12], Fault::DecodeFailed, None, 12, 0),
+            (b"\xa1\x01\x05", Fault::Refused, Some(1), 2, 1),
+        ] {
             let Ok(Verdict::Rejected(told)) = explain(Kind::Info, given, &mut out) else { panic!("accepted") };
             assert_eq!((told.fault, told.member, told.refusal), (fault, member, Refusal { offset, len }));
         }

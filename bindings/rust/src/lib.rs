@@ -1,52 +1,41 @@
 //! Messages of CTAP2 and WebAuthn, decoded, checked and encoded again, and CBOR data items (RFC 8949)
 //! and authenticator data (WebAuthn Level 3, section 6.1), looked at in place, by proved code.
 //!
+//! ```
+//! use puffgrit::{member, Key};
+//!
+//! let info = b"\xa1\x0a\x81\xa1\x63alg\x26"; // authenticatorGetInfo's algorithms: {10: [{"alg": -7}]}
+//! let algorithms = member(info, 0, Key::Number(10)).unwrap();
+//! let algorithm = algorithms.elements_in(info).next().unwrap();
+//! assert_eq!(algorithm.member_in(info, Key::Name("alg")).unwrap().integer(), Some(-7));
+//! ```
+//!
 //! The calls that look are compiled from the C that this crate carries. With the feature `whole` all of
 //! libpuffgrit is linked, from the folder that `PUFFGRIT_PREFIX` names: then there are `rewrite`, `json`
 //! and `explain`, which allocate, and free what they allocated.
 #![no_std]
 
+mod auth_data;
 #[cfg(feature = "whole")]
 mod decode;
 #[cfg(feature = "whole")]
+mod fault;
+mod item;
+#[cfg(feature = "whole")]
 mod kind;
 
+pub use auth_data::AuthData;
 use core::mem::MaybeUninit;
 #[cfg(feature = "whole")]
 pub use decode::*;
 #[cfg(feature = "whole")]
+pub use fault::{Error, Fault};
+pub use item::{Elements, Item, Type};
+#[cfg(feature = "whole")]
 pub use kind::Kind;
 
-/// A data item in bytes.
-#[repr(C)]
-#[derive(Clone, Copy, Debug, PartialEq, Eq)]
-pub struct Item {
-    /// The argument of its head, or `u64::MAX` for an indefinite length.
-    pub number: u64,
-    /// The offset of its first byte.
-    pub from: usize,
-    /// The offset after its head.
-    pub content: usize,
-    /// The offset after its last byte.
-    pub end: usize,
-    /// Its major type, 0 to 7; 8 for a float.
-    pub kind: u32,
-}
-
-/// The parts of authenticator data, by their offsets; 0 for a part that is absent.
-#[repr(C)]
-#[derive(Clone, Copy, Debug, PartialEq, Eq)]
-pub struct AuthData {
-    pub aaguid: usize,
-    pub credential_id: usize,
-    pub credential_id_len: usize,
-    pub public_key: usize,
-    pub extensions: usize,
-    /// The offset after the last part.
-    pub end: usize,
-    pub counter: u32,
-    pub flags: u32,
-}
+/// The version of the interface, which is that of puffgrit.h.
+pub const VERSION: u32 = 2;
 
 extern "C" {
     fn puffgrit_item_len(bytes: *const u8, len: usize) -> usize;
