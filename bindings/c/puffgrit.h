@@ -5,17 +5,28 @@
      during a call, and no output overlaps it or another output.
    - No call has a state, calls back, aborts, or loops without end, and nothing is to be freed. Calls may be made from any thread.
    - puffgrit_rewrite, puffgrit_json and puffgrit_explain allocate, by rattle_alloc, rattle_realloc and rattle_dealloc, which stand for
-     malloc, realloc and free in the library; a program with functions of these names has its own. The other calls call no function of
+     malloc, realloc and free in the library. A program that is linked with libpuffgrit.a may have its own, but all three (as Puffgrit's
+     bindings/c/heap.c): else the linker finds one twice. libpuffgrit.so always calls the library's. The other calls call no function of
      C, and may be made from a signal handler.
    - A call that finds nothing returns false, and leaves its output as it was.
    - A call that looks at a data item looks at all of it: it takes as long as puffgrit_item_len. No proof covers the stack: over 256
      levels puffgrit_rewrite takes up to 84 KiB, puffgrit_json and puffgrit_explain 336, puffgrit_is_canonical 56, and the
-     others 8. */
+     others 8.
+   - A data item is in CTAP2's canonical form (CTAP 2.1, section 8) if its heads are as short as they can be, its lengths definite, the
+     keys of each map in ascending order, and neither a tag nor undefined is in it; a float may have any width. puffgrit_rewrite writes
+     the shortest heads, definite lengths, null for undefined, and a message's own members in order. What it keeps as a data item keeps
+     its tags and its map keys in their order: an input of the kind cbor, attestation statements, COSE keys, certifications, parameters
+     of authenticatorConfig, and extension outputs. So what it writes is canonical if these are.
+   - libpuffgrit is for Linux on x86-64, on any such processor: it uses no extension but SSE2. puffgrit_look.c has the calls that look as
+     C99 for any other processor. */
 #ifndef PUFFGRIT_H
 #define PUFFGRIT_H
 
 #include <stddef.h>
 #include <stdint.h>
+
+/* The version of this interface, which puffgrit_version returns of the library. */
+#define PUFFGRIT_VERSION 2u
 
 #ifdef __cplusplus
 extern "C" {
@@ -241,8 +252,8 @@ puffgrit_bool puffgrit_auth_parts(const uint8_t *bytes, size_t bytes_len, puffgr
 #define PUFFGRIT_MC_REQUEST_EXCLUDE_LIST 5
 #define PUFFGRIT_MC_REQUEST_EXTENSIONS 6
 #define PUFFGRIT_MC_REQUEST_OPTIONS 7
-#define PUFFGRIT_MC_REQUEST_PIN_AUTH 8
-#define PUFFGRIT_MC_REQUEST_PIN_PROTOCOL 9
+#define PUFFGRIT_MC_REQUEST_PIN_UV_AUTH_PARAM 8
+#define PUFFGRIT_MC_REQUEST_PIN_UV_AUTH_PROTOCOL 9
 
 /* mc-response */
 #define PUFFGRIT_MC_RESPONSE_FMT 1
@@ -258,8 +269,8 @@ puffgrit_bool puffgrit_auth_parts(const uint8_t *bytes, size_t bytes_len, puffgr
 #define PUFFGRIT_GA_REQUEST_ALLOW_LIST 3
 #define PUFFGRIT_GA_REQUEST_EXTENSIONS 4
 #define PUFFGRIT_GA_REQUEST_OPTIONS 5
-#define PUFFGRIT_GA_REQUEST_PIN_AUTH 6
-#define PUFFGRIT_GA_REQUEST_PIN_PROTOCOL 7
+#define PUFFGRIT_GA_REQUEST_PIN_UV_AUTH_PARAM 6
+#define PUFFGRIT_GA_REQUEST_PIN_UV_AUTH_PROTOCOL 7
 
 /* ga-response */
 #define PUFFGRIT_GA_RESPONSE_CREDENTIAL 1
@@ -277,15 +288,15 @@ puffgrit_bool puffgrit_auth_parts(const uint8_t *bytes, size_t bytes_len, puffgr
 #define PUFFGRIT_INFO_AAGUID 3
 #define PUFFGRIT_INFO_OPTIONS 4
 #define PUFFGRIT_INFO_MAX_MSG_SIZE 5
-#define PUFFGRIT_INFO_PIN_PROTOCOLS 6
+#define PUFFGRIT_INFO_PIN_UV_AUTH_PROTOCOLS 6
 #define PUFFGRIT_INFO_TRANSPORTS 9
 #define PUFFGRIT_INFO_ALGORITHMS 10
-#define PUFFGRIT_INFO_MAC_SERIALIZED_LARGE_BLOB_ARRAY 11
+#define PUFFGRIT_INFO_MAX_SERIALIZED_LARGE_BLOB_ARRAY 11
 #define PUFFGRIT_INFO_FORCE_PIN_CHANGE 12
 #define PUFFGRIT_INFO_MIN_PIN_LENGTH 13
 #define PUFFGRIT_INFO_FIRMWARE_VERSION 14
 #define PUFFGRIT_INFO_MAX_CRED_BLOB_LENGTH 15
-#define PUFFGRIT_INFO_MAX_RPIDS_FOR_SET_MIN_PIN_LENGTH 16
+#define PUFFGRIT_INFO_MAX_RP_IDS_FOR_SET_MIN_PIN_LENGTH 16
 #define PUFFGRIT_INFO_PREFERRED_PLATFORM_UV_ATTEMPTS 17
 #define PUFFGRIT_INFO_UV_MODALITY 18
 #define PUFFGRIT_INFO_CERTIFICATIONS 19
@@ -345,7 +356,7 @@ puffgrit_bool puffgrit_auth_parts(const uint8_t *bytes, size_t bytes_len, puffgr
 #define PUFFGRIT_CM_RESPONSE_EXISTING_RESIDENT_CREDENTIALS_COUNT 1
 #define PUFFGRIT_CM_RESPONSE_MAX_POSSIBLE_REMAINING_RESIDENT_CREDENTIALS_COUNT 2
 #define PUFFGRIT_CM_RESPONSE_RP 3
-#define PUFFGRIT_CM_RESPONSE_RP_IDHASH 4
+#define PUFFGRIT_CM_RESPONSE_RP_ID_HASH 4
 #define PUFFGRIT_CM_RESPONSE_TOTAL_RPS 5
 #define PUFFGRIT_CM_RESPONSE_USER 6
 #define PUFFGRIT_CM_RESPONSE_CREDENTIAL_ID 7
@@ -371,6 +382,16 @@ puffgrit_bool puffgrit_auth_parts(const uint8_t *bytes, size_t bytes_len, puffgr
 #define PUFFGRIT_CFG_REQUEST_SUB_COMMAND_PARAMS 2
 #define PUFFGRIT_CFG_REQUEST_PIN_UV_AUTH_PROTOCOL 3
 #define PUFFGRIT_CFG_REQUEST_PIN_UV_AUTH_PARAM 4
+
+/* Names of CTAP 2.0, and of earlier versions of this header. */
+#define PUFFGRIT_MC_REQUEST_PIN_AUTH PUFFGRIT_MC_REQUEST_PIN_UV_AUTH_PARAM
+#define PUFFGRIT_MC_REQUEST_PIN_PROTOCOL PUFFGRIT_MC_REQUEST_PIN_UV_AUTH_PROTOCOL
+#define PUFFGRIT_GA_REQUEST_PIN_AUTH PUFFGRIT_GA_REQUEST_PIN_UV_AUTH_PARAM
+#define PUFFGRIT_GA_REQUEST_PIN_PROTOCOL PUFFGRIT_GA_REQUEST_PIN_UV_AUTH_PROTOCOL
+#define PUFFGRIT_INFO_PIN_PROTOCOLS PUFFGRIT_INFO_PIN_UV_AUTH_PROTOCOLS
+#define PUFFGRIT_INFO_MAC_SERIALIZED_LARGE_BLOB_ARRAY PUFFGRIT_INFO_MAX_SERIALIZED_LARGE_BLOB_ARRAY
+#define PUFFGRIT_INFO_MAX_RPIDS_FOR_SET_MIN_PIN_LENGTH PUFFGRIT_INFO_MAX_RP_IDS_FOR_SET_MIN_PIN_LENGTH
+#define PUFFGRIT_CM_RESPONSE_RP_IDHASH PUFFGRIT_CM_RESPONSE_RP_ID_HASH
 
 #ifdef __cplusplus
 }
