@@ -1,20 +1,31 @@
-/* stack: prints how many bytes of stack calls take over 256 levels, more than over a number: puffgrit_is_canonical (check),
-   puffgrit_rewrite (rewrite), puffgrit_json and puffgrit_explain (show), and the others (look); with LOOKS_ALONE only check and look. */
+/* stack: answers requests from standard input, one a line, for tools/test-c: how many bytes of the stack calls take.
+
+   check HEX: puffgrit_is_canonical; look HEX: the one of the other calls that look which takes the most; with LOOKS_ALONE only these.
+   rewrite KIND HEX: puffgrit_rewrite; show KIND HEX: the one of puffgrit_json and puffgrit_explain. `-` is no bytes. */
 #define _POSIX_C_SOURCE 200809L
 #include <pthread.h>
 #include <stdio.h>
+#include <stdlib.h>
 #include <string.h>
 
 #include "puffgrit.h"
 
-enum { ROOM = 1 << 20, MARK = 0xa5, LEVELS = 256 };
+enum { ROOM = 2 << 20, MARK = 0xa5, MOST = 1 << 16 };
 
-/* An authenticatorGetInfo response: versions and an AAGUID, and after them a member that it doesn't have. */
-#define INFO "\xa3\x01\x81\x68" "FIDO_2_0" "\x03\x50" "0123456789abcdef" "\x18\x60"
-enum { FRONT = sizeof INFO - 1 };
+static uint64_t room[ROOM / sizeof(uint64_t)];
+static uint8_t input[MOST];
+static size_t input_len;
 
-static uint8_t input[2 * LEVELS + 1], info[FRONT + 2 * LEVELS], room[ROOM];
-static size_t input_len, info_len;
+static void *nothing(void *unused) {
+    (void)unused;
+    return 0;
+}
+
+static void *check(void *unused) {
+    (void)unused;
+    (void)puffgrit_is_canonical(input, input_len);
+    return 0;
+}
 
 static void *look(void *unused) {
     puffgrit_item item;
@@ -28,20 +39,14 @@ static void *look(void *unused) {
     return 0;
 }
 
-static void *check(void *unused) {
-    (void)unused;
-    (void)puffgrit_is_canonical(input, input_len);
-    return 0;
-}
-
 #ifndef LOOKS_ALONE
-static uint8_t output[8 * LEVELS];
+static uint32_t kind;
+static uint8_t output[16 * MOST];
 
 static void *again(void *unused) {
     size_t read, len;
     (void)unused;
-    (void)puffgrit_rewrite(PUFFGRIT_KIND_CBOR, input, input_len, &read, output, sizeof output, &len);
-    (void)puffgrit_rewrite(PUFFGRIT_KIND_INFO, info, info_len, &read, output, sizeof output, &len);
+    (void)puffgrit_rewrite(kind, input, input_len, &read, output, sizeof output, &len);
     return 0;
 }
 
@@ -49,69 +54,52 @@ static void *show(void *unused) {
     puffgrit_refusal refusal;
     size_t read, len;
     (void)unused;
-    (void)puffgrit_json(PUFFGRIT_KIND_CBOR, input, input_len, &read, output, sizeof output, &len);
-    (void)puffgrit_explain(PUFFGRIT_KIND_CBOR, input, input_len, &read, &refusal, output, sizeof output, &len);
-    (void)puffgrit_json(PUFFGRIT_KIND_INFO, info, info_len, &read, output, sizeof output, &len);
-    (void)puffgrit_explain(PUFFGRIT_KIND_INFO, info, info_len, &read, &refusal, output, sizeof output, &len);
+    (void)puffgrit_json(kind, input, input_len, &read, output, sizeof output, &len);
+    (void)puffgrit_explain(kind, input, input_len, &read, &refusal, output, sizeof output, &len);
     return 0;
 }
-
 #endif
 
-/* The bytes of its stack that the thread wrote. */
+/* The bytes of its stack that a thread wrote. */
 static size_t used(void *(*run)(void *)) {
     pthread_attr_t attributes;
     pthread_t thread;
     size_t untouched = 0;
+    uint64_t mark;
+    memset(&mark, MARK, sizeof mark);
     memset(room, MARK, ROOM);
     pthread_attr_init(&attributes);
     pthread_attr_setstack(&attributes, room, ROOM);
-    if (pthread_create(&thread, &attributes, run, 0) != 0) return ROOM;
+    if (pthread_create(&thread, &attributes, run, 0) != 0) exit(2);
     pthread_join(thread, 0);
-    while (untouched < ROOM && room[untouched] == MARK) untouched++;
-    return ROOM - untouched;
+    while (untouched < ROOM / sizeof mark && room[untouched] == mark) untouched++;
+    return ROOM - untouched * sizeof mark;
 }
 
-static void print_more(const char *name, const char *what, size_t taken, size_t alone) {
-    printf("%s %s %lu\n", name, what, taken > alone ? (unsigned long)(taken - alone) : 0ul);
-}
-
-/* The message around the input without its first bytes, which are a level that the message's map takes. */
-static void fill_info(size_t first) {
-    info_len = FRONT + input_len - first;
-    memcpy(info + FRONT, input + first, input_len - first);
-}
-
-static const struct {
-    const char *name;
-    void *(*run)(void *);
-} calls[] = {
-    {"look", look},
-    {"check", check},
-#ifndef LOOKS_ALONE
-    {"rewrite", again},
-    {"show", show},
-#endif
-};
-enum { CALLS = sizeof calls / sizeof *calls };
-
-static void over(const char *what, const uint8_t *level, size_t len) {
-    size_t k, alone[4];
-    input_len = 1;
-    fill_info(0);
-    for (k = 0; k < CALLS; k++) alone[k] = used(calls[k].run);
-    for (k = 0; k < LEVELS; k++) memcpy(input + k * len, level, len);
-    input_len = LEVELS * len + 1;
-    input[input_len - 1] = 0;
-    fill_info(len);
-    for (k = 0; k < CALLS; k++) print_more(calls[k].name, what, used(calls[k].run), alone[k]);
+static void read_input(const char *hex) {
+    unsigned byte;
+    input_len = 0;
+    for (; strcmp(hex, "-") != 0 && *hex; hex += 2) {
+        if (input_len == MOST || sscanf(hex, "%2x", &byte) != 1) exit(2);
+        input[input_len++] = (uint8_t)byte;
+    }
 }
 
 int main(void) {
-    memcpy(info, INFO, FRONT);
-    over("arrays", (const uint8_t *)"\x81", 1);
-    over("maps", (const uint8_t *)"\xa1\x00", 2);
-    over("tags", (const uint8_t *)"\xc1", 1);
-    over("arrays-of-indefinite-length", (const uint8_t *)"\x9f", 1);
+    static char line[2 * MOST + 32], call[8], first[2 * MOST + 1], second[2 * MOST + 1];
+    size_t alone = used(nothing), taken;
+    while (fgets(line, sizeof line, stdin)) {
+        int words = sscanf(line, "%7s %131072s %131072s", call, first, second);
+        read_input(words == 3 ? second : first);
+        taken = 0;
+        if (!strcmp(call, "check")) taken = used(check);
+        if (!strcmp(call, "look")) taken = used(look);
+#ifndef LOOKS_ALONE
+        kind = (uint32_t)strtoul(first, 0, 10);
+        if (!strcmp(call, "rewrite")) taken = used(again);
+        if (!strcmp(call, "show")) taken = used(show);
+#endif
+        printf("%lu\n", taken > alone ? (unsigned long)(taken - alone) : 0ul);
+    }
     return 0;
 }
