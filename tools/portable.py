@@ -83,6 +83,8 @@ def places(fields):
 def argument(name, kind):
     if kind == "&[u8]":
         return f"ADDRESS({name}), {name}_len"
+    if kind == "bool":
+        return f"{name} ? 1 : 0"
     expect(kind in ("usize", "i64", "u64", "u32"), f"a parameter of the type {kind}")
     return f"(uint64_t){name}" if kind == "i64" else name
 

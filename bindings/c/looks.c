@@ -1,8 +1,8 @@
 /* looks: answers requests from standard input, one a line, for tools/test-c: each over a buffer of exactly the input's length.
 
    len HEX, canonical HEX, item OFFSET HEX, member OFFSET KEY HEX, named OFFSET NAME-IN-HEX HEX, auth HEX, all OFFSET HEX (these six,
-   with some keys), rewrite KIND ROOM HEX, json KIND ROOM HEX, explain KIND ROOM HEX; with LOOKS_ALONE only the first seven. `-` is no
-   bytes. An answer to `rewrite` and `json` is the status, how many bytes were read, the length and, in hexadecimal, the output if the
+   with some keys), client 0-OR-1 TYPE.CHALLENGE.ORIGIN.TOP-ORIGIN HEX (whether the last is required, and each in hexadecimal),
+   rewrite KIND ROOM HEX, json KIND ROOM HEX, explain KIND ROOM HEX; with LOOKS_ALONE only the first eight. `-` is no bytes. An answer to `rewrite` and `json` is the status, how many bytes were read, the length and, in hexadecimal, the output if the
    status is 0, and `changed` if bytes after it changed; to `explain` the
    status, how many bytes were read, the offset and the length of what is refused, the length of the text and the text in hexadecimal. */
 #include <inttypes.h>
@@ -61,6 +61,19 @@ static void print_parts(buffer it) {
     puffgrit_bool found = puffgrit_auth_parts(it.bytes, it.len, &parts);
     printf("%d %zu %zu %zu %zu %zu %zu %" PRIu32 " %" PRIu32, found, parts.aaguid, parts.credential_id, parts.credential_id_len,
         parts.public_key, parts.extensions, parts.end, parts.counter, parts.flags);
+}
+
+static void print_client_data(buffer it, puffgrit_bool is_required, char *words) {
+    buffer part[4];
+    size_t k;
+    for (k = 0; k < 4; k++) {
+        const char *word = strtok(k ? NULL : words, ".");
+        if (!word) exit(2);
+        part[k] = read_hex(word);
+    }
+    printf("%d", puffgrit_is_client_data(it.bytes, it.len, part[0].bytes, part[0].len, part[1].bytes, part[1].len, part[2].bytes,
+        part[2].len, part[3].bytes, part[3].len, is_required));
+    for (k = 0; k < 4; k++) free(part[k].bytes);
 }
 
 static void print_all(buffer it, size_t offset) {
@@ -141,6 +154,7 @@ int main(void) {
             free(name.bytes);
         }
         if (!strcmp(call, "auth")) print_parts(input);
+        if (!strcmp(call, "client")) print_client_data(input, offset == 1, second);
         if (!strcmp(call, "all")) print_all(input, offset);
 #ifndef LOOKS_ALONE
         if (!strcmp(call, "rewrite")) written(puffgrit_rewrite, (uint32_t)offset, (size_t)strtoull(second, 0, 10), input);

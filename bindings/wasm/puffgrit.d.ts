@@ -26,6 +26,18 @@ export interface AuthParts {
   end: number;
 }
 
+/** What client data are expected to say (WebAuthn Level 3, section 5.8.1.2). */
+export interface ClientData {
+  /** `webauthn.create` or `webauthn.get`. */
+  type: string;
+  challenge: Uint8Array;
+  origin: string;
+  /** The origin of the page around a frame of another origin. */
+  topOrigin?: string | null;
+  /** Whether the top origin has to be there, which clients of WebAuthn Level 2 don't write; true if it isn't given. */
+  requiresTopOrigin?: boolean;
+}
+
 /**
  * The calls of a module; none changes the bytes. Null means that nothing is there. Each call throws a TypeError if an argument has
  * another type, and a RangeError if an offset is no integer from 0 to 2 ** 53 - 1; one after the last byte is where nothing is.
@@ -42,6 +54,8 @@ export interface Puffgrit {
    * is beyond 2 ** 53 - 1; else a RangeError is thrown.
    */
   member(bytes: Uint8Array, map: number, key: number | bigint | string): Item | null;
+  /** Whether the bytes begin as the client data that a client writes. JSON isn't parsed, and other members may follow. */
+  isClientData(bytes: Uint8Array, expected: ClientData): boolean;
   /** The parts of the authenticator data at the beginning. */
   authParts(bytes: Uint8Array): AuthParts | null;
 }

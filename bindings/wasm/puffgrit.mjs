@@ -106,6 +106,18 @@ export async function load(source) {
       return is(calls.puffgrit_member(...slice(place, bytes), offsetGiven(map), keyGiven(key), BigInt(out))) ? itemHere(out) : null;
     },
 
+    /** Whether the bytes begin as client data of this type, challenge and origins (WebAuthn Level 3, section 5.8.1.2). */
+    isClientData(bytes, { type, challenge, origin, topOrigin = null, requiresTopOrigin = true }) {
+      const texts = [type, origin, topOrigin ?? ""];
+      if (texts.some((it) => typeof it !== "string")) throw new TypeError("a type and an origin have to be strings");
+      if (topOrigin === "") throw new RangeError("a top origin isn't empty");
+      const [said, from, top] = texts.map((it) => new TextEncoder().encode(it));
+      const parts = [bytes, said, challenge, from, top];
+      const places = put(parts, 0);
+      const found = calls.puffgrit_is_client_data(...parts.flatMap((it, k) => slice(places[k], it)), requiresTopOrigin ? 1 : 0);
+      return is(found) && texts.every(isText);
+    },
+
     /** The parts of authenticator data by their offsets, 0 for one that is absent (WebAuthn Level 3, section 6.1). */
     authParts(bytes) {
       const [place, out] = put([bytes], PARTS);

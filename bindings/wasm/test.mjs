@@ -61,6 +61,12 @@ assert.equal(calls.member(keyed, 0, "\ud800"), null);
 
 // authenticator data: an assertion's, 37 bytes; and with AT, an id of two bytes, an empty key, and ED, extensions {"a": 1}
 const assertion = bytesOf("11".repeat(32) + "05" + "00000102");
+const signIn = { type: "webauthn.get", challenge: new Uint8Array([0xfb]), origin: "https://example.org" };
+const signedIn = new TextEncoder().encode('{"type":"webauthn.get","challenge":"-w","origin":"https://example.org","crossOrigin":false}');
+assert.equal(calls.isClientData(signedIn, signIn), true);
+assert.equal(calls.isClientData(signedIn, { ...signIn, topOrigin: "https://example.com" }), false);
+assert.throws(() => calls.isClientData(signedIn, { ...signIn, origin: 1 }), TypeError);
+
 assert.deepEqual(calls.authParts(assertion), {
   flags: 5, counter: 258, aaguid: 0, credentialId: 0, credentialIdLen: 0, publicKey: 0, extensions: 0, end: 37,
 });

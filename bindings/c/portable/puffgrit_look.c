@@ -120,10 +120,12 @@ static inline uint64_t ctz64(uint64_t a) {
 }
 
 static const union {
-    uint8_t bytes[1];
+    uint8_t bytes[74];
     uint64_t words[2];
 } ALIGNED data = {{
-    0
+    44, 34, 111, 114, 105, 103, 105, 110, 34, 58, 44, 34, 99, 114, 111, 115, 115, 79, 114, 105, 103, 105, 110, 34, 58, 123, 34, 116,
+    121, 112, 101, 34, 58, 44, 34, 99, 104, 97, 108, 108, 101, 110, 103, 101, 34, 58, 34, 34, 92, 34, 92, 92, 116, 114, 117, 101, 102,
+    97, 108, 115, 101, 44, 34, 116, 111, 112, 79, 114, 105, 103, 105, 110, 34, 58
 }};
 
 static void data_view_map_at_1(uint64_t, uint64_t, uint64_t, uint64_t);
@@ -149,15 +151,19 @@ static void canonical_behind_item_20(uint64_t, uint64_t, uint64_t, uint64_t);
 static void canonical_behind_string_21(uint64_t, uint32_t, uint64_t, uint64_t, uint64_t);
 static void canonical_behind_items_22(uint64_t, uint64_t, uint64_t, uint64_t, uint64_t);
 static void canonical_behind_pairs_23(uint64_t, uint64_t, uint64_t, uint64_t, uint64_t);
-static uint32_t item_fill_24(uint64_t, uint64_t);
-static uint32_t Cursor_more_25(uint64_t, uint64_t);
-static void Cursor_other_string_26(uint64_t, uint64_t);
-static uint32_t names_place_of_27(uint64_t, uint64_t, uint64_t);
-static uint32_t slices_groups_equal_28(uint64_t, uint64_t, uint64_t, uint64_t);
-static uint32_t scan_any_in_ends_29(uint64_t, uint64_t, uint64_t);
-static void names_behind_30(uint64_t, uint64_t, uint64_t, uint64_t, uint64_t);
+static void client_data_after_string_24(uint64_t, uint64_t, uint64_t, uint64_t, uint64_t);
+static void client_data_after_25(uint64_t, uint64_t, uint64_t, uint64_t, uint64_t);
+static uint32_t scan_any_in_ends_26(uint64_t, uint64_t, uint64_t);
+static uint32_t scan_any_in_quarters_27(uint64_t, uint64_t, uint64_t);
+static uint32_t item_fill_28(uint64_t, uint64_t);
+static uint32_t Cursor_more_29(uint64_t, uint64_t);
+static void Cursor_other_string_30(uint64_t, uint64_t);
+static uint32_t names_place_of_31(uint64_t, uint64_t, uint64_t);
+static uint32_t slices_groups_equal_32(uint64_t, uint64_t, uint64_t, uint64_t);
+static void names_behind_33(uint64_t, uint64_t, uint64_t, uint64_t, uint64_t);
 static uint32_t code_puffgrit_auth_parts(uint64_t, uint64_t, uint64_t);
 static uint32_t code_puffgrit_is_canonical(uint64_t, uint64_t);
+static uint32_t code_puffgrit_is_client_data(uint64_t, uint64_t, uint64_t, uint64_t, uint64_t, uint64_t, uint64_t, uint64_t, uint64_t, uint64_t, uint32_t);
 static uint64_t code_puffgrit_item_len(uint64_t, uint64_t);
 static uint32_t code_puffgrit_item_at(uint64_t, uint64_t, uint64_t, uint64_t);
 static uint32_t code_puffgrit_member(uint64_t, uint64_t, uint64_t, uint64_t, uint64_t);
@@ -1940,7 +1946,276 @@ static void canonical_behind_pairs_23(uint64_t a0, uint64_t a1, uint64_t a2, uin
   L14:;
 }
 
-static uint32_t item_fill_24(uint64_t a0, uint64_t a1) {
+static void client_data_after_string_24(uint64_t a0, uint64_t a1, uint64_t a2, uint64_t a3, uint64_t a4) {
+    FRAME(frame, 80);
+    uint32_t v6 = 0;
+    uint64_t v5 = 0, v7 = 0;
+    v5 = FRAME_AT(frame);
+    client_data_after_25(v5, a1, a2, DATA + 47ull, 1ull);
+    if (ld8(v5) != 1u) goto L1;
+    a2 = ld64(v5 + 16u);
+    a1 = ld64(v5 + 8u);
+  L2:;
+    if (a4 == 0) goto L3;
+    v6 = ld8(a3);
+    st64(v5 + 64u, 0ull);
+    st64(v5 + 56u, 0ull);
+    st64(v5 + 48u, 0ull);
+    if (v6 == 92u) goto L4;
+    if (v6 != 34u) goto L5;
+    client_data_after_25(v5 + 48ull, a1, a2, DATA + 48ull, 2ull);
+    goto L6;
+  L4:;
+    client_data_after_25(v5 + 48ull, a1, a2, DATA + 50ull, 2ull);
+    goto L6;
+  L5:;
+    if (v6 > 31u) goto L7;
+    st32(v5 + 74u, 0x3030755cu);
+    st8(v5 + 78u, (v6 >> 4) | 48u);
+    const uint32_t t1 = v6 | 48u;
+    v6 = v6 & 15u;
+    st8(v5 + 79u, (v6 < 10u) ? t1 : (v6 + 87u));
+    client_data_after_25(v5 + 48ull, a1, a2, v5 + 74ull, 6ull);
+    goto L6;
+  L7:;
+    if (a2 != 0) goto L8;
+    a2 = 0ull;
+    a1 = 0ull;
+    v7 = 0ull;
+    goto L9;
+  L8:;
+    v6 = (uint32_t)(ld8(a1) == v6);
+    v7 = v6 ? (a2 - 1ull) : 0ull;
+    a1 = v6 ? (a1 + 1ull) : 0ull;
+    a2 = (uint64_t)v6;
+  L9:;
+    st64(v5 + 64u, v7);
+    st64(v5 + 56u, a1);
+    st64(v5 + 48u, a2);
+  L6:;
+    a3 = a3 + 1ull;
+    a4 = a4 - 1ull;
+    a2 = ld64(v5 + 64u);
+    a1 = ld64(v5 + 56u);
+    if (ld8(v5 + 48u) == 1u) goto L2;
+    st64(a0 + 16u, 0ull);
+    st64(a0 + 8u, 0ull);
+    st64(a0, 0ull);
+    goto L10;
+  L3:;
+    client_data_after_25(v5 + 24ull, a1, a2, DATA + 47ull, 1ull);
+    st64(a0, (uint64_t)ld8(v5 + 24u));
+    st64(a0 + 8ull, ld64(v5 + 32u));
+    st64(a0 + 16ull, ld64(v5 + 40u));
+    goto L10;
+  L1:;
+    st64(a0 + 16u, 0ull);
+    st64(a0 + 8u, 0ull);
+    st64(a0, 0ull);
+  L10:;
+}
+
+static void client_data_after_25(uint64_t a0, uint64_t a1, uint64_t a2, uint64_t a3, uint64_t a4) {
+    FRAME(frame, 32);
+    uint32_t v9 = 0;
+    uint64_t v5 = 0, v6 = 0, v7 = 0, v8 = 0;
+    v5 = FRAME_AT(frame);
+    v6 = 0ull;
+    v7 = 0ull;
+    v8 = 0ull;
+    if (a2 < a4) goto L1;
+    st64(v5 + 24u, a4);
+    st64(v5 + 16u, a3);
+    st64(v5 + 8u, a4);
+    st64(v5, a1);
+    if (a4 > 3ull) goto L2;
+    v6 = a4 >> 1;
+    const uint32_t t1 = (uint32_t)(ld8(a1) != ld8(a3)) | (uint32_t)(ld8(a1 + v6) != ld8(a3 + v6));
+    v6 = a4 - 1ull;
+    v9 = t1 | (uint32_t)(ld8(a1 + v6) != ld8(a3 + v6));
+    goto L3;
+  L2:;
+    if (a4 > 8ull) goto L4;
+    const uint32_t t2 = scan_any_in_ends_26(v5, a4, 4ull);
+    v9 = t2;
+    goto L3;
+  L4:;
+    const uint32_t t3 = scan_any_in_quarters_27(v5, a4, 8ull);
+    v9 = t3;
+  L3:;
+    v8 = v9 ? 0ull : (a2 - a4);
+    v7 = v9 ? 0ull : (a1 + a4);
+    v6 = (uint64_t)(v9 ^ 1u);
+  L1:;
+    st64(a0, v6);
+    st64(a0 + 16ull, v8);
+    st64(a0 + 8ull, v7);
+}
+
+static uint32_t scan_any_in_ends_26(uint64_t a0, uint64_t a1, uint64_t a2) {
+    uint32_t v6 = 0, v10 = 0;
+    uint64_t v3 = 0, v4 = 0, v5 = 0, v7 = 0, v8 = 0, v9 = 0, v11 = 0;
+    v3 = a2 & 3ull;
+    v4 = ld64(a0 + 16ull);
+    v5 = ld64(a0);
+    v6 = 0u;
+    v7 = 0ull;
+    if (a2 < 4ull) goto L1;
+    v8 = a2 & 0xfffffffffffffffcull;
+    v7 = 0ull;
+    v6 = 0u;
+  L2:;
+    a0 = v5 + v7;
+    v9 = v4 + v7;
+    const uint32_t t1 = ((v6 | (uint32_t)(ld8(a0) != ld8(v9))) | (uint32_t)(ld8(a0 + 1ull) != ld8(v9 + 1ull))) | (uint32_t)(ld8(a0 + 2ull)
+        != ld8(v9 + 2ull));
+    v6 = t1 | (uint32_t)(ld8(a0 + 3ull) != ld8(v9 + 3ull));
+    v7 = v7 + 4ull;
+    if (v8 != v7) goto L2;
+    if (v3 == 0) goto L3;
+  L1:;
+    a0 = v5 + v7;
+    v7 = v4 + v7;
+  L4:;
+    v6 = v6 | (uint32_t)(ld8(a0) != ld8(v7));
+    a0 = a0 + 1ull;
+    v7 = v7 + 1ull;
+    v3 = v3 - 1ull;
+    if (v3 != 0ull) goto L4;
+  L3:;
+    a1 = a1 - a2;
+    if (a2 != 1ull) goto L5;
+    a0 = 0ull;
+    v10 = 0u;
+    goto L6;
+  L5:;
+    v11 = a2 & 1ull;
+    v3 = v4 + a1;
+    v8 = v5 + a1;
+    a2 = a2 & 0xfffffffffffffffeull;
+    a0 = 0ull;
+    v10 = 0u;
+  L7:;
+    v7 = v8 + a0;
+    v9 = v3 + a0;
+    v10 = (v10 | (uint32_t)(ld8(v7) != ld8(v9))) | (uint32_t)(ld8(v7 + 1ull) != ld8(v9 + 1ull));
+    a0 = a0 + 2ull;
+    if (a2 != a0) goto L7;
+    if (v11 == 0) goto L8;
+  L6:;
+    a0 = a0 + a1;
+    v10 = v10 | (uint32_t)(ld8(v5 + a0) != ld8(v4 + a0));
+  L8:;
+    return (v6 | v10) & 1u;
+}
+
+static uint32_t scan_any_in_quarters_27(uint64_t a0, uint64_t a1, uint64_t a2) {
+    uint32_t v7 = 0, v13 = 0, v14 = 0, v15 = 0;
+    uint64_t v3 = 0, v4 = 0, v5 = 0, v6 = 0, v8 = 0, v9 = 0, v10 = 0, v11 = 0, v12 = 0;
+    v3 = a2 & 3ull;
+    v4 = a2 - 1ull;
+    v5 = ld64(a0 + 16ull);
+    v6 = ld64(a0);
+    v7 = 0u;
+    v8 = 0ull;
+    if (a2 < 4ull) goto L1;
+    v9 = a2 & 0x3ffffffffffffffcull;
+    v8 = 0ull;
+    v7 = 0u;
+  L2:;
+    a0 = v6 + v8;
+    v10 = v5 + v8;
+    const uint32_t t1 = ((v7 | (uint32_t)(ld8(a0) != ld8(v10))) | (uint32_t)(ld8(a0 + 1ull) != ld8(v10 + 1ull))) | (uint32_t)(ld8(a0 + 2ull)
+        != ld8(v10 + 2ull));
+    v7 = t1 | (uint32_t)(ld8(a0 + 3ull) != ld8(v10 + 3ull));
+    v8 = v8 + 4ull;
+    if (v9 != v8) goto L2;
+    if (v3 == 0) goto L3;
+  L1:;
+    a0 = v6 + v8;
+    v8 = v5 + v8;
+  L4:;
+    v7 = v7 | (uint32_t)(ld8(a0) != ld8(v8));
+    a0 = a0 + 1ull;
+    v8 = v8 + 1ull;
+    v3 = v3 - 1ull;
+    if (v3 != 0ull) goto L4;
+  L3:;
+    v11 = a1 - a2;
+    v12 = (v11 < a2) ? v11 : a2;
+    v13 = (uint32_t)(v4 == 0);
+    if (v13 == 0) goto L5;
+    a0 = 0ull;
+    v14 = 0u;
+    goto L6;
+  L5:;
+    v4 = a2 & 1ull;
+    v3 = v6 + v12;
+    v9 = v5 + v12;
+    a1 = a2 & 0x3ffffffffffffffeull;
+    a0 = 0ull;
+    v14 = 0u;
+  L7:;
+    v8 = v3 + a0;
+    v10 = v9 + a0;
+    v14 = (v14 | (uint32_t)(ld8(v8) != ld8(v10))) | (uint32_t)(ld8(v8 + 1ull) != ld8(v10 + 1ull));
+    a0 = a0 + 2ull;
+    if (a1 != a0) goto L7;
+    if (v4 == 0) goto L8;
+  L6:;
+    a0 = a0 + v12;
+    v14 = v14 | (uint32_t)(ld8(v6 + a0) != ld8(v5 + a0));
+  L8:;
+    a0 = a2 << 1;
+    v12 = (v11 < a0) ? v11 : a0;
+    if (v13 == 0) goto L9;
+    a0 = 0ull;
+    v15 = 0u;
+    goto L10;
+  L9:;
+    v4 = a2 & 1ull;
+    v3 = v6 + v12;
+    v9 = v5 + v12;
+    a1 = a2 & 0x3ffffffffffffffeull;
+    a0 = 0ull;
+    v15 = 0u;
+  L11:;
+    v8 = v3 + a0;
+    v10 = v9 + a0;
+    v15 = (v15 | (uint32_t)(ld8(v8) != ld8(v10))) | (uint32_t)(ld8(v8 + 1ull) != ld8(v10 + 1ull));
+    a0 = a0 + 2ull;
+    if (a1 != a0) goto L11;
+    if (v4 == 0) goto L12;
+  L10:;
+    a0 = a0 + v12;
+    v15 = v15 | (uint32_t)(ld8(v6 + a0) != ld8(v5 + a0));
+  L12:;
+    if (v13 == 0) goto L13;
+    a0 = 0ull;
+    v13 = 0u;
+    goto L14;
+  L13:;
+    v12 = a2 & 1ull;
+    v3 = v5 + v11;
+    v9 = v6 + v11;
+    a1 = a2 & 0x3ffffffffffffffeull;
+    a0 = 0ull;
+    v13 = 0u;
+  L15:;
+    v8 = v9 + a0;
+    v10 = v3 + a0;
+    v13 = (v13 | (uint32_t)(ld8(v8) != ld8(v10))) | (uint32_t)(ld8(v8 + 1ull) != ld8(v10 + 1ull));
+    a0 = a0 + 2ull;
+    if (a1 != a0) goto L15;
+    if (v12 == 0) goto L16;
+  L14:;
+    a0 = a0 + v11;
+    v13 = v13 | (uint32_t)(ld8(v6 + a0) != ld8(v5 + a0));
+  L16:;
+    return (((v7 | v14) | v15) | v13) & 1u;
+}
+
+static uint32_t item_fill_28(uint64_t a0, uint64_t a1) {
     uint32_t v2 = 0, v8 = 0;
     uint64_t v3 = 0, v4 = 0, v5 = 0, v6 = 0, v7 = 0;
     v2 = ld8(a1);
@@ -2009,7 +2284,7 @@ static uint32_t item_fill_24(uint64_t a0, uint64_t a1) {
     return (uint32_t)(v2 == 1u);
 }
 
-static uint32_t Cursor_more_25(uint64_t a0, uint64_t a1) {
+static uint32_t Cursor_more_29(uint64_t a0, uint64_t a1) {
     FRAME(frame, 32);
     uint32_t v3 = 0, v7 = 0;
     uint64_t v2 = 0, v4 = 0, v5 = 0, v6 = 0;
@@ -2053,7 +2328,7 @@ static uint32_t Cursor_more_25(uint64_t a0, uint64_t a1) {
     return v3;
 }
 
-static void Cursor_other_string_26(uint64_t a0, uint64_t a1) {
+static void Cursor_other_string_30(uint64_t a0, uint64_t a1) {
     FRAME(frame, 48);
     uint32_t v4 = 0, v5 = 0, v6 = 0, v7 = 0;
     uint64_t v2 = 0, v3 = 0, v8 = 0, v9 = 0, v10 = 0, v11 = 0, v12 = 0, v13 = 0, v14 = 0;
@@ -2162,7 +2437,7 @@ static void Cursor_other_string_26(uint64_t a0, uint64_t a1) {
     st64(a0 + 8ull, v10);
 }
 
-static uint32_t names_place_of_27(uint64_t a0, uint64_t a1, uint64_t a2) {
+static uint32_t names_place_of_31(uint64_t a0, uint64_t a1, uint64_t a2) {
     uint32_t v3 = 0;
     uint64_t v4 = 0;
     if (ld64(a0 + 8ull) != a2) goto L1;
@@ -2173,7 +2448,7 @@ static uint32_t names_place_of_27(uint64_t a0, uint64_t a1, uint64_t a2) {
     if ((ld8(a0 + 2ull) & 255u) != (ld8(a1 + 2ull) & 255u)) goto L1;
     if ((ld8(a0 + 3ull) & 255u) != (ld8(a1 + 3ull) & 255u)) goto L1;
     v3 = 1u;
-    const uint32_t t1 = slices_groups_equal_28(a0, a2, a1, a2);
+    const uint32_t t1 = slices_groups_equal_32(a0, a2, a1, a2);
     if (t1 == 0) goto L1;
     goto L3;
   L2:;
@@ -2195,7 +2470,7 @@ static uint32_t names_place_of_27(uint64_t a0, uint64_t a1, uint64_t a2) {
     return v3;
 }
 
-static uint32_t slices_groups_equal_28(uint64_t a0, uint64_t a1, uint64_t a2, uint64_t a3) {
+static uint32_t slices_groups_equal_32(uint64_t a0, uint64_t a1, uint64_t a2, uint64_t a3) {
     FRAME(frame, 32);
     uint32_t v5 = 0;
     uint64_t v4 = 0, v6 = 0, v7 = 0, v8 = 0, v9 = 0, v10 = 0, v11 = 0;
@@ -2205,151 +2480,77 @@ static uint32_t slices_groups_equal_28(uint64_t a0, uint64_t a1, uint64_t a2, ui
     st64(v4 + 8u, a1);
     st64(v4, a0);
     if (a1 > 8ull) goto L1;
-    const uint32_t t1 = scan_any_in_ends_29(v4, a1, 4ull);
+    const uint32_t t1 = scan_any_in_ends_26(v4, a1, 4ull);
     v5 = t1;
     goto L2;
   L1:;
     if (a1 > 32ull) goto L3;
-    a1 = a1 - 8ull;
-    v6 = (a1 < 8ull) ? a1 : 8ull;
-    a3 = a0 + v6;
-    v6 = a2 + v6;
-    v7 = (a1 < 16ull) ? a1 : 16ull;
-    v8 = a0 + v7;
-    v7 = a2 + v7;
-    v9 = a0 + a1;
-    a1 = a2 + a1;
-    const uint32_t t2 = ((uint32_t)(ld8(a3) != ld8(v6)) | (uint32_t)(ld8(v8) != ld8(v7))) | (uint32_t)(ld8(v9) != ld8(a1));
-    const uint32_t t3 = ((uint32_t)(ld8(a3 + 1u) != ld8(v6 + 1u)) | (uint32_t)(ld8(v8 + 1u) != ld8(v7 + 1u))) | (uint32_t)(ld8(v9 + 1u) !=
-        ld8(a1 + 1u));
-    const uint32_t t4 = ((uint32_t)(ld8(a3 + 3u) != ld8(v6 + 3u)) | (uint32_t)(ld8(v8 + 3u) != ld8(v7 + 3u))) | (uint32_t)(ld8(v9 + 3u) !=
-        ld8(a1 + 3u));
-    const uint32_t t5 = ((uint32_t)(ld8(a3 + 2u) != ld8(v6 + 2u)) | (uint32_t)(ld8(v8 + 2u) != ld8(v7 + 2u))) | (uint32_t)(ld8(v9 + 2u) !=
-        ld8(a1 + 2u));
-    const uint32_t t6 = ((uint32_t)(ld8(a3 + 4u) != ld8(v6 + 4u)) | (uint32_t)(ld8(v8 + 4u) != ld8(v7 + 4u))) | (uint32_t)(ld8(v9 + 4u) !=
-        ld8(a1 + 4u));
-    const uint32_t t7 = ((uint32_t)(ld8(a3 + 5u) != ld8(v6 + 5u)) | (uint32_t)(ld8(v8 + 5u) != ld8(v7 + 5u))) | (uint32_t)(ld8(v9 + 5u) !=
-        ld8(a1 + 5u));
-    const uint32_t t8 = ((uint32_t)(ld8(a3 + 7u) != ld8(v6 + 7u)) | (uint32_t)(ld8(v8 + 7u) != ld8(v7 + 7u))) | (uint32_t)(ld8(v9 + 7u) !=
-        ld8(a1 + 7u));
-    const uint32_t t9 = ((uint32_t)(ld8(a3 + 6u) != ld8(v6 + 6u)) | (uint32_t)(ld8(v8 + 6u) != ld8(v7 + 6u))) | (uint32_t)(ld8(v9 + 6u) !=
-        ld8(a1 + 6u));
-    const uint32_t t10 = ((t2 | (t3 << 1)) | ((t4 << 3) | (t5 << 2))) | (((t6 | (t7 << 1)) | ((t8 << 3) | (t9 << 2))) << 4);
-    const uint32_t t11 = (uint32_t)(ld8(a0 + 1ull) != ld8(a2 + 1ull)) | (uint32_t)(ld8(a0 + 2ull) != ld8(a2 + 2ull));
-    const uint32_t t12 = (uint32_t)(ld8(a0 + 3ull) != ld8(a2 + 3ull)) | (uint32_t)(ld8(a0 + 4ull) != ld8(a2 + 4ull));
-    const uint32_t t13 = (uint32_t)(ld8(a0 + 5ull) != ld8(a2 + 5ull)) | (uint32_t)(ld8(a0 + 6ull) != ld8(a2 + 6ull));
-    const uint32_t t14 = ((((uint32_t)((t10 & 255u) != 0u) | (uint32_t)(ld8(a0) != ld8(a2))) | t11) | (t12 | t13)) | (uint32_t)(ld8(a0 +
-        7ull) != ld8(a2 + 7ull));
-    v5 = t14;
+    const uint32_t t2 = scan_any_in_quarters_27(v4, a1, 8ull);
+    v5 = t2;
     goto L2;
   L3:;
     if (a1 < 65ull) goto L4;
-    v10 = a1 & 0xffffffffffffffc0ull;
-    v11 = 0ull;
-    v7 = a0;
+    v6 = a1 & 0xffffffffffffffc0ull;
+    v7 = 0ull;
+    v8 = a0;
     v9 = a2;
   L5:;
     v5 = 0u;
     a3 = 0ull;
   L6:;
-    v6 = v7 + a3;
-    v8 = v9 + a3;
-    v5 = (v5 | (uint32_t)(ld8(v6) != ld8(v8))) | (uint32_t)(ld8(v6 + 1ull) != ld8(v8 + 1ull));
+    v10 = v8 + a3;
+    v11 = v9 + a3;
+    v5 = (v5 | (uint32_t)(ld8(v10) != ld8(v11))) | (uint32_t)(ld8(v10 + 1ull) != ld8(v11 + 1ull));
     a3 = a3 + 2ull;
     if (a3 != 64ull) goto L6;
     if (v5 & 1u) goto L7;
-    v7 = v7 + 64ull;
+    v8 = v8 + 64ull;
     v9 = v9 + 64ull;
-    v11 = v11 + 64ull;
-    if ((a1 - v11) > 63ull) goto L5;
-    v11 = v10;
+    v7 = v7 + 64ull;
+    if ((a1 - v7) > 63ull) goto L5;
+    v7 = v6;
   L7:;
-    if ((a1 - v11) < 32ull) goto L8;
-    v7 = a2 + v11;
-    v9 = a0 + v11;
+    if ((a1 - v7) < 32ull) goto L8;
+    v8 = a2 + v7;
+    v9 = a0 + v7;
   L9:;
     a3 = 0ull;
     v5 = 0u;
   L10:;
-    v6 = v9 + a3;
-    v8 = v7 + a3;
-    v5 = (v5 | (uint32_t)(ld8(v6) != ld8(v8))) | (uint32_t)(ld8(v6 + 1ull) != ld8(v8 + 1ull));
+    v10 = v9 + a3;
+    v11 = v8 + a3;
+    v5 = (v5 | (uint32_t)(ld8(v10) != ld8(v11))) | (uint32_t)(ld8(v10 + 1ull) != ld8(v11 + 1ull));
     a3 = a3 + 2ull;
     if (a3 != 32ull) goto L10;
     if (v5 & 1u) goto L11;
-    v7 = v7 + 32ull;
+    v8 = v8 + 32ull;
     v9 = v9 + 32ull;
-    v11 = v11 + 32ull;
-    if ((a1 - v11) >= 32ull) goto L9;
+    v7 = v7 + 32ull;
+    if ((a1 - v7) > 31ull) goto L9;
     goto L8;
   L11:;
     v5 = 1u;
-    if ((a1 - v11) > 31ull) goto L2;
+    if ((a1 - v7) > 31ull) goto L2;
   L8:;
-    v7 = a2 + a1;
+    v8 = a2 + a1;
     v9 = a0 + a1;
     v5 = 0u;
     a3 = 0xffffffffffffffe0ull;
   L12:;
-    v6 = v9 + a3;
-    v8 = v7 + a3;
-    v5 = (v5 | (uint32_t)(ld8(v6) != ld8(v8))) | (uint32_t)(ld8(v6 + 1ull) != ld8(v8 + 1ull));
+    v10 = v9 + a3;
+    v11 = v8 + a3;
+    v5 = (v5 | (uint32_t)(ld8(v10) != ld8(v11))) | (uint32_t)(ld8(v10 + 1ull) != ld8(v11 + 1ull));
     a3 = a3 + 2ull;
     if (a3 != 0ull) goto L12;
     goto L2;
   L4:;
-    const uint32_t t15 = scan_any_in_ends_29(v4, a1, 32ull);
-    v5 = t15;
+    const uint32_t t3 = scan_any_in_ends_26(v4, a1, 32ull);
+    v5 = t3;
   L2:;
     return (v5 ^ 0xffffffffu) & 1u;
 }
 
-static uint32_t scan_any_in_ends_29(uint64_t a0, uint64_t a1, uint64_t a2) {
-    uint32_t v7 = 0, v10 = 0;
-    uint64_t v3 = 0, v4 = 0, v5 = 0, v6 = 0, v8 = 0, v9 = 0;
-    v3 = a2 & 60ull;
-    v4 = a2 & 3ull;
-    v5 = ld64(a0 + 16ull);
-    v6 = ld64(a0);
-    a0 = 0ull;
-    v7 = 0u;
-  L1:;
-    v8 = v6 + a0;
-    v9 = v5 + a0;
-    const uint32_t t1 = ((v7 | (uint32_t)(ld8(v8) != ld8(v9))) | (uint32_t)(ld8(v8 + 1ull) != ld8(v9 + 1ull))) | (uint32_t)(ld8(v8 + 2ull)
-        != ld8(v9 + 2ull));
-    v7 = t1 | (uint32_t)(ld8(v8 + 3ull) != ld8(v9 + 3ull));
-    a0 = a0 + 4ull;
-    if (v3 != a0) goto L1;
-    if (v4 == 0) goto L2;
-    v8 = v5 + a0;
-    a0 = v6 + a0;
-  L3:;
-    v7 = v7 | (uint32_t)(ld8(a0) != ld8(v8));
-    a0 = a0 + 1ull;
-    v8 = v8 + 1ull;
-    v4 = v4 - 1ull;
-    if (v4 != 0ull) goto L3;
-  L2:;
-    v9 = a2 & 62ull;
-    v4 = a2 & 1ull;
-    v8 = a1 - a2;
-    a0 = v5 + v8;
-    v8 = v6 + v8;
-    v10 = 0u;
-  L4:;
-    v10 = (v10 | (uint32_t)(ld8(v8) != ld8(a0))) | (uint32_t)(ld8(v8 + 1ull) != ld8(a0 + 1ull));
-    a0 = a0 + 2ull;
-    v8 = v8 + 2ull;
-    v9 = v9 - 2ull;
-    if (v9 != 0ull) goto L4;
-    if (v4 == 0) goto L5;
-    v10 = v10 | (uint32_t)(ld8(v8) != ld8(a0));
-  L5:;
-    return (v7 | v10) & 1u;
-}
-
-static void names_behind_30(uint64_t a0, uint64_t a1, uint64_t a2, uint64_t a3, uint64_t a4) {
+static void names_behind_33(uint64_t a0, uint64_t a1, uint64_t a2, uint64_t a3, uint64_t a4) {
     uint64_t v5 = 0;
     if (a2 >= a4) goto L1;
     st64(a0 + 16u, 0ull);
@@ -2362,7 +2563,7 @@ static void names_behind_30(uint64_t a0, uint64_t a1, uint64_t a2, uint64_t a3, 
     if ((ld8(a1 + 1ull) & 255u) != (ld8(a3 + 1ull) & 255u)) goto L3;
     if ((ld8(a1 + 2ull) & 255u) != (ld8(a3 + 2ull) & 255u)) goto L3;
     if ((ld8(a1 + 3ull) & 255u) != (ld8(a3 + 3ull) & 255u)) goto L3;
-    const uint32_t t1 = slices_groups_equal_28(a1, a4, a3, a4);
+    const uint32_t t1 = slices_groups_equal_32(a1, a4, a3, a4);
     if (t1 == 0) goto L3;
     goto L4;
   L2:;
@@ -2469,6 +2670,254 @@ static uint32_t code_puffgrit_is_canonical(uint64_t a0, uint64_t a1) {
     return (uint32_t)(v3 != 0u) & (uint32_t)(a0 == 0);
 }
 
+static uint32_t code_puffgrit_is_client_data(uint64_t a0, uint64_t a1, uint64_t a2, uint64_t a3, uint64_t a4, uint64_t a5, uint64_t a6, uint64_t a7, uint64_t a8, uint64_t a9, uint32_t a10) {
+    FRAME(frame, 208);
+    uint32_t v12 = 0, v14 = 0, v15 = 0, v16 = 0, v17 = 0, v18 = 0;
+    uint64_t v11 = 0, v13 = 0;
+    v11 = FRAME_AT(frame);
+    st64(v11 + 56u, 0ull);
+    st64(v11 + 64u, 0ull);
+    st64(v11 + 72u, 0ull);
+    st64(v11 + 32u, 0ull);
+    st64(v11 + 40u, 0ull);
+    st64(v11 + 48u, 0ull);
+    st64(v11 + 8u, 0ull);
+    st64(v11 + 16u, 0ull);
+    st64(v11 + 24u, 0ull);
+    utf8_from_utf8_13(v11 + 56ull, a2 + ((a2 == 0) ? 4096ull : 0ull), a3);
+    utf8_from_utf8_13(v11 + 32ull, a6 + ((a6 == 0) ? 4096ull : 0ull), a7);
+    utf8_from_utf8_13(v11 + 8ull, a8 + ((a8 == 0) ? 4096ull : 0ull), a9);
+    v12 = 0u;
+    if (ld8(v11 + 56u)) goto L1;
+    if (ld8(v11 + 32u) & 255u) goto L1;
+    if (ld8(v11 + 8u) & 255u) goto L1;
+    a9 = ld64(v11 + 24u);
+    v13 = ld64(v11 + 16u);
+    a3 = ld64(v11 + 48u);
+    a7 = ld64(v11 + 40u);
+    a2 = ld64(v11 + 72u);
+    a6 = ld64(v11 + 64u);
+    st64(v11 + 112u, 0ull);
+    st64(v11 + 120u, 0ull);
+    st64(v11 + 128u, 0ull);
+    st64(v11 + 80u, 0ull);
+    st64(v11 + 88u, 0ull);
+    st64(v11 + 96u, 0ull);
+    st64(v11 + 160u, 0ull);
+    st64(v11 + 168u, 0ull);
+    st64(v11 + 176u, 0ull);
+    client_data_after_25(v11 + 136ull, a0 + ((a0 == 0) ? 4096ull : 0ull), a1, DATA + 25ull, 8ull);
+    if (ld8(v11 + 136u) != 1u) goto L1;
+    client_data_after_string_24(v11 + 136ull, ld64(v11 + 144u), ld64(v11 + 152u), a6, a2);
+    if (ld8(v11 + 136u) != 1u) goto L1;
+    a2 = DATA;
+    client_data_after_25(v11 + 136ull, ld64(v11 + 144u), ld64(v11 + 152u), a2 + 33ull, 14ull);
+    if (ld8(v11 + 136u) != 1u) goto L1;
+    a2 = a4 + ((a4 == 0) ? 4096ull : 0ull);
+    a8 = ld64(v11 + 152u);
+    a6 = ld64(v11 + 144u);
+    st32(v11 + 108u, 0u);
+    st64(v11 + 184u, 0ull);
+    st64(v11 + 192u, 0ull);
+    st64(v11 + 200u, 0ull);
+    if (a5 < 3ull) goto L2;
+  L3:;
+    v14 = ld8(a2);
+    v15 = v14 >> 2;
+    if (v14 > 103u) goto L4;
+    v15 = v15 + 65u;
+    goto L5;
+  L4:;
+    if (v14 > 207u) goto L6;
+    v15 = v15 + 71u;
+    goto L5;
+  L6:;
+    v15 = (v14 < 248u) ? (v15 - 4u) : ((v15 == 62u) ? 45u : 95u);
+  L5:;
+    v16 = ld8(a2 + 1ull);
+    v14 = (v16 >> 4) | ((v14 << 4) & 48u);
+    if (v14 > 25u) goto L7;
+    v17 = v14 + 65u;
+    goto L8;
+  L7:;
+    if (v14 > 51u) goto L9;
+    v17 = v14 + 71u;
+    goto L8;
+  L9:;
+    v17 = (v14 < 62u) ? (v14 - 4u) : ((v14 == 62u) ? 45u : 95u);
+  L8:;
+    v18 = ld8(a2 + 2ull);
+    v16 = (v16 << 2) & 60u;
+    v14 = (v18 >> 6) | v16;
+    if (v14 > 25u) goto L10;
+    v16 = v14 + 65u;
+    goto L11;
+  L10:;
+    if (v16 > 51u) goto L12;
+    v16 = v14 + 71u;
+    goto L11;
+  L12:;
+    v16 = (v14 < 62u) ? (v14 - 4u) : ((v14 == 62u) ? 45u : 95u);
+  L11:;
+    v14 = v18 & 63u;
+    if (v14 > 25u) goto L13;
+    v14 = v14 + 65u;
+    goto L14;
+  L13:;
+    if (v14 > 51u) goto L15;
+    v14 = v14 + 71u;
+    goto L14;
+  L15:;
+    v14 = (v14 < 62u) ? (v14 - 4u) : ((v14 == 62u) ? 45u : 95u);
+  L14:;
+    st8(v11 + 111u, v14);
+    st8(v11 + 110u, v16);
+    st8(v11 + 109u, v17);
+    st8(v11 + 108u, v15);
+    client_data_after_25(v11 + 184ull, a6, a8, v11 + 108ull, 4ull);
+    if (ld8(v11 + 184u) != 1u) goto L1;
+    a2 = a2 + 3ull;
+    a8 = ld64(v11 + 200u);
+    a6 = ld64(v11 + 192u);
+    a5 = a5 - 3ull;
+    if (a5 > 2ull) goto L3;
+  L2:;
+    if (a5 > 2ull) goto L16;
+    switch ((uint32_t)a5) {
+    case 1: goto L16;
+    case 2: goto L17;
+    default: goto L18;
+    }
+  L16:;
+    v14 = ld8(a2);
+    v15 = v14 >> 2;
+    if (v14 > 103u) goto L19;
+    v15 = v15 + 65u;
+    goto L20;
+  L19:;
+    if (v14 > 207u) goto L21;
+    v15 = v15 + 71u;
+    goto L20;
+  L21:;
+    v15 = (v14 < 248u) ? (v15 - 4u) : ((v15 == 62u) ? 45u : 95u);
+  L20:;
+    if (a8 < 2ull) goto L1;
+    a8 = a8 - 2ull;
+    v14 = (v14 << 4) & 48u;
+    const uint32_t t1 = (uint32_t)(ld8(a6) == (v15 & 255u)) & (uint32_t)(ld8(a6 + 1ull) == (((v14 < 26u) ? 65u : 71u) | v14));
+    v14 = t1;
+    st64(v11 + 152u, v14 ? a8 : 0ull);
+    a6 = a6 + 2ull;
+    st64(v11 + 144u, v14 ? a6 : 0ull);
+    st64(v11 + 136u, (uint64_t)v14);
+    if (v14) goto L22;
+    goto L1;
+  L17:;
+    v14 = ld8(a2);
+    v15 = v14 >> 2;
+    if (v14 > 103u) goto L23;
+    v16 = v15 + 65u;
+    goto L24;
+  L23:;
+    if (v14 > 207u) goto L25;
+    v16 = v15 + 71u;
+    goto L24;
+  L25:;
+    v16 = (v14 < 248u) ? (v15 - 4u) : ((v15 == 62u) ? 45u : 95u);
+  L24:;
+    v15 = ld8(a2 + 1ull);
+    v14 = (v15 >> 4) | ((v14 << 4) & 48u);
+    if (v14 > 25u) goto L26;
+    v17 = v14 + 65u;
+    goto L27;
+  L26:;
+    if (v14 > 51u) goto L28;
+    v17 = v14 + 71u;
+    goto L27;
+  L28:;
+    v17 = (v14 < 62u) ? (v14 - 4u) : ((v14 == 62u) ? 45u : 95u);
+  L27:;
+    v14 = (v15 << 2) & 60u;
+    if (v14 > 25u) goto L29;
+    v14 = v14 | 65u;
+    goto L30;
+  L29:;
+    if (v14 > 51u) goto L31;
+    v14 = v14 + 71u;
+    goto L30;
+  L31:;
+    v14 = v14 - 4u;
+  L30:;
+    if (a8 < 3ull) goto L1;
+    a8 = a8 - 3ull;
+    const uint32_t t2 = ((uint32_t)(ld8(a6) == (v16 & 255u)) & (uint32_t)(ld8(a6 + 1ull) == (v17 & 255u))) & (uint32_t)(ld8(a6 + 2ull) ==
+        (v14 & 255u));
+    v14 = t2;
+    st64(v11 + 152u, v14 ? a8 : 0ull);
+    a6 = a6 + 3ull;
+    st64(v11 + 144u, v14 ? a6 : 0ull);
+    st64(v11 + 136u, (uint64_t)v14);
+    if (v14) goto L22;
+    goto L1;
+  L18:;
+    st64(v11 + 152u, a8);
+    st64(v11 + 144u, a6);
+    st64(v11 + 136u, 1ull);
+  L22:;
+    client_data_after_25(v11 + 160ull, a6, a8, DATA + 47ull, 1ull);
+    a2 = (uint64_t)ld8(v11 + 160u);
+    st64(v11 + 80u, a2);
+    st64(v11 + 88u, ld64(v11 + 168u));
+    st64(v11 + 96u, ld64(v11 + 176u));
+    if (a2 != 1ull) goto L1;
+    a2 = DATA;
+    client_data_after_25(v11 + 80ull, ld64(v11 + 88u), ld64(v11 + 96u), a2 + 0ull, 10ull);
+    if (ld8(v11 + 80u) != 1u) goto L1;
+    client_data_after_string_24(v11 + 80ull, ld64(v11 + 88u), ld64(v11 + 96u), a7, a3);
+    if (ld8(v11 + 80u) != 1u) goto L1;
+    a2 = DATA;
+    client_data_after_25(v11 + 112ull, ld64(v11 + 88u), ld64(v11 + 96u), a2 + 10ull, 15ull);
+    v12 = 0u;
+    if (ld8(v11 + 112u) != 1u) goto L1;
+    a2 = ld64(v11 + 128u);
+    a6 = ld64(v11 + 120u);
+    st64(v11 + 136u, 0ull);
+    st64(v11 + 144u, 0ull);
+    st64(v11 + 152u, 0ull);
+    if (a9 == 0) goto L32;
+    client_data_after_25(v11 + 112ull, a6, a2, DATA + 52ull, 4ull);
+    if (ld8(v11 + 112u) != 1u) goto L1;
+    a2 = ld64(v11 + 128u);
+    a6 = ld64(v11 + 120u);
+    st64(v11 + 176u, 0ull);
+    st64(v11 + 168u, 0ull);
+    st64(v11 + 160u, 0ull);
+    client_data_after_25(v11 + 184ull, a6, a2, DATA + 61ull, 13ull);
+    if (ld8(v11 + 184u) != 1u) goto L33;
+    client_data_after_string_24(v11 + 160ull, ld64(v11 + 192u), ld64(v11 + 200u), v13, a9);
+    v14 = ld8(v11 + 160u);
+    goto L34;
+  L33:;
+    v14 = a10 & 1u;
+    st64(v11 + 176u, v14 ? 0ull : a2);
+    st64(v11 + 168u, v14 ? 0ull : a6);
+    v14 = (a10 ^ 0xffffffffu) & 1u;
+  L34:;
+    st64(v11 + 152u, ld64(v11 + 176u));
+    st64(v11 + 144u, ld64(v11 + 168u));
+    goto L35;
+  L32:;
+    client_data_after_25(v11 + 136ull, a6, a2, DATA + 56ull, 5ull);
+    v14 = ld8(v11 + 136u);
+  L35:;
+    if ((v14 & 255u) != 1u) goto L1;
+    if (ld64(v11 + 152u) == 0) goto L1;
+    v12 = ld8(ld64(v11 + 144u));
+    v12 = (uint32_t)(v12 == 44u) | (uint32_t)(v12 == 125u);
+  L1:;
+    return v12;
+}
+
 static uint64_t code_puffgrit_item_len(uint64_t a0, uint64_t a1) {
     FRAME(frame, 64);
     uint32_t v3 = 0;
@@ -2494,7 +2943,7 @@ static uint32_t code_puffgrit_item_at(uint64_t a0, uint64_t a1, uint64_t a2, uin
     uint64_t v4 = 0;
     v4 = FRAME_AT(frame);
     item_view_item_at_2(v4 + 8ull, a0 + ((a0 == 0) ? 4096ull : 0ull), a1, a2);
-    const uint32_t t1 = item_fill_24(a3, v4 + 8ull);
+    const uint32_t t1 = item_fill_28(a3, v4 + 8ull);
     v5 = t1;
     return v5;
 }
@@ -2534,7 +2983,7 @@ static uint32_t code_puffgrit_member(uint64_t a0, uint64_t a1, uint64_t a2, uint
     a1 = v5 + 240ull;
     v6 = shr_s64(a3, 63ull);
   L4:;
-    const uint32_t t1 = Cursor_more_25(v5 + 32ull, v5 + 160ull);
+    const uint32_t t1 = Cursor_more_29(v5 + 32ull, v5 + 160ull);
     if (t1 == 0) goto L3;
     st64(a1 + 16u, 0ull);
     st64(a1 + 8u, 0ull);
@@ -2605,7 +3054,7 @@ static uint32_t code_puffgrit_member(uint64_t a0, uint64_t a1, uint64_t a2, uint
     st64(v5 + 216u, a0);
     st64(v5 + 208u, a2);
   L2:;
-    const uint32_t t4 = item_fill_24(a4, v5 + 176ull);
+    const uint32_t t4 = item_fill_28(a4, v5 + 176ull);
     v7 = t4;
     return v7;
 }
@@ -2679,7 +3128,7 @@ static uint32_t code_puffgrit_named(uint64_t a0, uint64_t a1, uint64_t a2, uint6
     v11 = (v6 + 504ull) + 16ull;
     v12 = (v6 + 336ull) + 16ull;
   L7:;
-    const uint32_t t1 = Cursor_more_25(v6 + 128ull, v6 + 248ull);
+    const uint32_t t1 = Cursor_more_29(v6 + 128ull, v6 + 248ull);
     if (t1 == 0) goto L6;
     st64(v6 + 376u, 0ull);
     st64(v6 + 368u, 0ull);
@@ -2757,7 +3206,7 @@ static uint32_t code_puffgrit_named(uint64_t a0, uint64_t a1, uint64_t a2, uint6
     st64(v6 + 320u, v9);
     goto L14;
   L8:;
-    Cursor_other_string_26(v6 + 336ull, v6 + 128ull);
+    Cursor_other_string_30(v6 + 336ull, v6 + 128ull);
     if (ld8(v6 + 336u) != 1u) goto L15;
     v13 = ld64(v6 + 368u);
     v15 = ld64(v6 + 360u);
@@ -2783,7 +3232,7 @@ static uint32_t code_puffgrit_named(uint64_t a0, uint64_t a1, uint64_t a2, uint6
     st64(v6 + 408u, 0ull);
     st64(v6 + 416u, 0ull);
     st64(v6 + 424u, 0ull);
-    v15 = DATA + 0ull;
+    v15 = DATA + 74ull;
   L16:;
     st64(v6 + 536u, 0ull);
     st64(v6 + 544u, 0ull);
@@ -2838,7 +3287,7 @@ static uint32_t code_puffgrit_named(uint64_t a0, uint64_t a1, uint64_t a2, uint6
     st64(a4 + 8u, ld64(a3 + 8u));
     st64(a4, ld64(a3));
     if ((v7 & 255u) != 9u) goto L20;
-    const uint32_t t4 = names_place_of_27(v6 + 320ull, v15, a0);
+    const uint32_t t4 = names_place_of_31(v6 + 320ull, v15, a0);
     v7 = t4;
     goto L22;
   L20:;
@@ -2859,9 +3308,9 @@ static uint32_t code_puffgrit_named(uint64_t a0, uint64_t a1, uint64_t a2, uint6
     st64(v6 + 536u, 0ull);
     st64(v6 + 544u, 0ull);
     st64(v6 + 552u, 0ull);
-    names_behind_30(v6 + 504ull, v9, v8, v15, a0);
+    names_behind_33(v6 + 504ull, v9, v8, v15, a0);
     if (ld8(v6 + 504u) == 0) goto L22;
-    names_behind_30(v6 + 536ull, ld64(v6 + 512u), ld64(v6 + 520u), v14, v13);
+    names_behind_33(v6 + 536ull, ld64(v6 + 512u), ld64(v6 + 520u), v14, v13);
     a0 = v13 + a0;
     v15 = v9;
     if (ld8(v6 + 536u) == 1u) goto L16;
@@ -2881,7 +3330,7 @@ static uint32_t code_puffgrit_named(uint64_t a0, uint64_t a1, uint64_t a2, uint6
     if (t6 == 0) goto L6;
     goto L24;
   L14:;
-    const uint32_t t7 = names_place_of_27(v6 + 320ull, v15, v13);
+    const uint32_t t7 = names_place_of_31(v6 + 320ull, v15, v13);
     v7 = t7;
   L23:;
     if ((v7 & 255u) == 1u) goto L25;
@@ -2936,7 +3385,7 @@ static uint32_t code_puffgrit_named(uint64_t a0, uint64_t a1, uint64_t a2, uint6
     st64(v6 + 40u, a1);
     st64(v6 + 32u, a4);
   L3:;
-    const uint32_t t9 = item_fill_24(a5, v6);
+    const uint32_t t9 = item_fill_28(a5, v6);
     v7 = t9;
   L1:;
     return v7;
@@ -2984,6 +3433,10 @@ puffgrit_bool puffgrit_named(const uint8_t *bytes, size_t bytes_len, size_t map,
     value->end = (size_t)ld64(at + 24u);
     value->kind = ld32(at + 32u);
     return 1;
+}
+
+puffgrit_bool puffgrit_is_client_data(const uint8_t *bytes, size_t bytes_len, const uint8_t *ty, size_t ty_len, const uint8_t *challenge, size_t challenge_len, const uint8_t *origin, size_t origin_len, const uint8_t *top_origin, size_t top_origin_len, puffgrit_bool requires_top_origin) {
+    return (puffgrit_bool)(code_puffgrit_is_client_data(ADDRESS(bytes), bytes_len, ADDRESS(ty), ty_len, ADDRESS(challenge), challenge_len, ADDRESS(origin), origin_len, ADDRESS(top_origin), top_origin_len, requires_top_origin ? 1 : 0) & 1);
 }
 
 puffgrit_bool puffgrit_auth_parts(const uint8_t *bytes, size_t bytes_len, puffgrit_auth_data *parts) {

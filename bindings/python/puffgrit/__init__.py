@@ -18,8 +18,8 @@ from ._kinds import DECODED, EXPLAINED, KINDS
 
 __all__ = [
     "ARRAY", "BYTES", "DECODED", "EXPLAINED", "FLOAT", "INDEFINITE", "KINDS", "MAP", "NEGATIVE", "SIMPLE", "TAG", "TEXT", "UNSIGNED",
-    "AuthData", "Fault", "Item", "auth_parts", "decode", "decode_front", "elements", "explain", "is_canonical", "item_at", "item_len",
-    "member", "rewrite", "rewrite_front", "version",
+    "AuthData", "Fault", "Item", "auth_parts", "decode", "decode_front", "elements", "explain", "is_canonical", "is_client_data", "item_at",
+    "item_len", "member", "rewrite", "rewrite_front", "version",
 ]  # fmt: skip
 
 # The types of data items: the major types (RFC 8949, section 3.1), and one for floats.
@@ -204,6 +204,21 @@ def auth_parts(data: bytes) -> AuthData | None:
         extensions=item_at(data, it.extensions) if it.extensions else None,
         end=it.end,
     )
+
+
+def is_client_data(
+    data: bytes, kind: str, challenge: bytes, origin: str, top_origin: str | None = None, *, requires_top_origin: bool = True
+) -> bool:
+    """Whether the data begin as the client data that a client writes for this type (`webauthn.create` or `webauthn.get`), challenge,
+    origin and top origin (WebAuthn Level 3, section 5.8.1.2). JSON isn't parsed, and other members may follow.
+
+    A top origin is expected of a ceremony in a frame of another origin. If it isn't required, clients of WebAuthn Level 2, which don't
+    write it, pass too.
+    """
+    if top_origin == "":
+        raise ValueError("a top origin isn't empty")
+    given = [_checked(data), kind.encode(), _checked(challenge), origin.encode(), (top_origin or "").encode()]
+    return bool(_library.puffgrit_is_client_data(*[it for part in given for it in (part, len(part))], bool(requires_top_origin)))
 
 
 def _number(kind: str, kinds: list[str] = KINDS) -> int:

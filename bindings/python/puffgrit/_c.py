@@ -69,6 +69,7 @@ def load() -> ctypes.CDLL:
         ("member", ctypes.c_bool, [*buffer, ctypes.c_size_t, ctypes.c_int64, item]),
         ("named", ctypes.c_bool, [*buffer, ctypes.c_size_t, *buffer, item]),
         ("auth_parts", ctypes.c_bool, [*buffer, ctypes.POINTER(AuthData)]),
+        ("is_client_data", ctypes.c_bool, [*buffer * 5, ctypes.c_bool]),
         ("rewrite", ctypes.c_uint32, [*given, *output]),
         ("json", ctypes.c_uint32, [*given, *output]),
         ("explain", ctypes.c_uint32, [*given, ctypes.POINTER(Refusal), *output]),

@@ -52,6 +52,13 @@ class Puffgrit(unittest.TestCase):
         self.assertEqual(parts.public_key.get(1).integer, 2)
         self.assertIsNone(puffgrit.auth_parts(data[:-2]))
 
+    def test_client_data(self):
+        text = b'{"type":"webauthn.get","challenge":"-w","origin":"https://example.org","crossOrigin":true,"topOrigin":"https://a.example"}'
+        said = text, "webauthn.get", b"\xfb", "https://example.org"
+        self.assertTrue(puffgrit.is_client_data(*said, "https://a.example"))
+        self.assertFalse(puffgrit.is_client_data(*said))
+        self.assertFalse(puffgrit.is_client_data(*said[:2], b"\xfa", said[3], "https://a.example"))
+
     def test_rewriting(self):
         # RFC 8949, section 8, and a required member that is absent; the JSON of WebAuthn Level 3, section 5.1
         self.assertEqual(puffgrit.rewrite("cbor", bytes.fromhex("9f1801ff")), bytes.fromhex("8101"))

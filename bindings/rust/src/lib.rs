@@ -44,6 +44,10 @@ extern "C" {
     fn puffgrit_member(bytes: *const u8, len: usize, map: usize, key: i64, value: *mut Item) -> bool;
     fn puffgrit_named(bytes: *const u8, len: usize, map: usize, name: *const u8, name_len: usize, value: *mut Item) -> bool;
     fn puffgrit_auth_parts(bytes: *const u8, len: usize, parts: *mut AuthData) -> bool;
+    fn puffgrit_is_client_data(
+        bytes: *const u8, len: usize, ty: *const u8, ty_len: usize, challenge: *const u8, challenge_len: usize, origin: *const u8,
+        origin_len: usize, top_origin: *const u8, top_origin_len: usize, requires_top_origin: bool,
+    ) -> bool;
 }
 
 /// A key of a map: an integer or a text.
@@ -100,6 +104,32 @@ pub fn auth_parts(bytes: &[u8]) -> Option<AuthData> {
     written(|parts| unsafe { puffgrit_auth_parts(bytes.as_ptr(), bytes.len(), parts) })
 }
 
+/// What client data are expected to say (WebAuthn Level 3, section 5.8.1.2).
+#[derive(Clone, Copy, Debug)]
+pub struct ClientData<'a> {
+    /// `webauthn.create` or `webauthn.get`.
+    pub ty: &'a str,
+    /// The challenge's bytes.
+    pub challenge: &'a [u8],
+    pub origin: &'a str,
+    /// The origin of the page around a frame of another origin; empty if there is none.
+    pub top_origin: &'a str,
+    /// Whether the top origin has to be there: clients of WebAuthn Level 2 don't write it.
+    pub requires_top_origin: bool,
+}
+
+/// Whether the bytes begin as the client data that a client writes. JSON isn't parsed, and other members may follow.
+pub fn is_client_data(bytes: &[u8], expected: ClientData<'_>) -> bool {
+    let ClientData { ty, challenge, origin, top_origin, requires_top_origin } = expected;
+    // SAFETY: as above.
+    unsafe {
+        puffgrit_is_client_data(
+            bytes.as_ptr(), bytes.len(), ty.as_ptr(), ty.len(), challenge.as_ptr(), challenge.len(), origin.as_ptr(), origin.len(),
+            top_origin.as_ptr(), top_origin.len(), requires_top_origin,
+        )
+    }
+}
+
 #[cfg(test)]
 mod tests {
     use super::*;
@@ -119,5 +149,13 @@ mod tests {
     fn authenticator_data() {
         assert_eq!(auth_parts(&[0; 37]).map(|it| it.end), Some(37));
         assert_eq!(auth_parts(&[0; 36]), None);
+    }
+
+    #[test]
+    fn client_data() {
+        let expected = ClientData { ty: "webauthn.get", challenge: &[0xfb], origin: "https://example.org", top_origin: "", requires_top_origin: true };
+        let text = br#"{"type":"webauthn.get","challenge":"-w","origin":"https://example.org","crossOrigin":false}"#;
+        assert!(is_client_data(text, expected));
+        assert!(!is_client_data(text, ClientData { challenge: &[0xfa], ..expected }));
     }
 }
