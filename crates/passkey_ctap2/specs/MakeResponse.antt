@@ -84,11 +84,4 @@ attestation_tree d = record_tree (attestation_places d)
 
 -- a response with this authenticator data and without attestation
 abbrev pub unattested : DataParts → MakeResponseParts
-unattested d = record {
-  fmt = codes "none";
-  auth_data = d;
-  att_stmt = no_statement;
-  ep_att = None;
-  large_blob_key = None;
-  unsigned_extension_outputs = None;
-}
+unattested d = record make_response.blank { fmt = codes "none"; auth_data = d; att_stmt = no_statement }
