@@ -10,7 +10,7 @@
 
 #include "puffgrit.h"
 
-enum { ROOM = 2 << 20, MARK = 0xa5, MOST = 1 << 16 };
+enum { ROOM = 4 << 20, MARK = 0xa5, MOST = 1 << 16 };
 
 static uint64_t room[ROOM / sizeof(uint64_t)];
 static uint8_t input[MOST];
@@ -60,19 +60,19 @@ static void *show(void *unused) {
 }
 #endif
 
-/* The bytes of its stack that a thread wrote. */
+/* The bytes of its stack that a thread wrote, which are marked again. */
 static size_t used(void *(*run)(void *)) {
     pthread_attr_t attributes;
     pthread_t thread;
     size_t untouched = 0;
     uint64_t mark;
     memset(&mark, MARK, sizeof mark);
-    memset(room, MARK, ROOM);
     pthread_attr_init(&attributes);
     pthread_attr_setstack(&attributes, room, ROOM);
     if (pthread_create(&thread, &attributes, run, 0) != 0) exit(2);
     pthread_join(thread, 0);
     while (untouched < ROOM / sizeof mark && room[untouched] == mark) untouched++;
+    memset(room + untouched, MARK, ROOM - untouched * sizeof mark);
     return ROOM - untouched * sizeof mark;
 }
 
@@ -87,7 +87,9 @@ static void read_input(const char *hex) {
 
 int main(void) {
     static char line[2 * MOST + 32], call[8], first[2 * MOST + 1], second[2 * MOST + 1];
-    size_t alone = used(nothing), taken;
+    size_t alone, taken;
+    memset(room, MARK, ROOM);
+    alone = used(nothing);
     while (fgets(line, sizeof line, stdin)) {
         int words = sscanf(line, "%7s %131072s %131072s", call, first, second);
         read_input(words == 3 ? second : first);
