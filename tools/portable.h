@@ -16,6 +16,17 @@
 #define ALIGNED
 #endif
 
+/* An address in the data: 8 bytes, the lowest first, which no initializer can say where the highest is first. */
+#if defined(__BYTE_ORDER__) && __BYTE_ORDER__ != __ORDER_LITTLE_ENDIAN__
+#error "this file is for little-endian machines; puffgrit_look.c is for all"
+#elif UINTPTR_MAX > 0xffffffffu
+typedef struct { const uint8_t *at; } InData;
+#define IN_DATA(offset) {(const uint8_t *)&data + (offset)}
+#else
+typedef struct { const uint8_t *at; uint32_t zero; } InData;
+#define IN_DATA(offset) {(const uint8_t *)&data + (offset), 0}
+#endif
+
 /* A frame of so many bytes on the stack. Where an array can't be asked to begin at a multiple of 16, it is 16 bytes longer. */
 #if defined(__GNUC__)
 #define FRAME(name, bytes) uint64_t name[(bytes) / 8] ALIGNED
@@ -196,3 +207,117 @@ static inline uint64_t rem_s64(uint64_t a, uint64_t b) {
 static inline uint32_t div_s32(uint32_t a, uint32_t b) { return (uint32_t)div_s64(extend32_64(a), extend32_64(b)); }
 
 static inline uint32_t rem_s32(uint32_t a, uint32_t b) { return (uint32_t)rem_s64(extend32_64(a), extend32_64(b)); }
+
+/* A float is the number of its bits (IEEE 754), which float and double have in C too. Each operation is rounded to a double by itself: so
+   no result is kept with more precision, and no two operations are done at once. */
+#if defined(__FLT_EVAL_METHOD__) && (__FLT_EVAL_METHOD__ == 2 || __FLT_EVAL_METHOD__ < 0)
+#error "a double is rounded twice here; gcc for x86 has -msse2 -mfpmath=sse"
+#endif
+#define ROUNDED(number) volatile double rounded = (number); return f64_bits(rounded)
+
+static inline float f32_of(uint32_t bits) {
+    union { uint32_t bits; float number; } it;
+    it.bits = bits;
+    return it.number;
+}
+
+static inline double f64_of(uint64_t bits) {
+    union { uint64_t bits; double number; } it;
+    it.bits = bits;
+    return it.number;
+}
+
+static inline uint32_t f32_bits(float number) {
+    union { uint32_t bits; float number; } it;
+    it.number = number;
+    return it.bits;
+}
+
+static inline uint64_t f64_bits(double number) {
+    union { uint64_t bits; double number; } it;
+    it.number = number;
+    return it.bits;
+}
+
+static inline uint64_t add_f64(uint64_t a, uint64_t b) { ROUNDED(f64_of(a) + f64_of(b)); }
+
+static inline uint64_t sub_f64(uint64_t a, uint64_t b) { ROUNDED(f64_of(a) - f64_of(b)); }
+
+static inline uint64_t mul_f64(uint64_t a, uint64_t b) { ROUNDED(f64_of(a) * f64_of(b)); }
+
+static inline uint64_t div_f64(uint64_t a, uint64_t b) { ROUNDED(f64_of(a) / f64_of(b)); }
+
+static inline uint64_t convert_i64_u(uint64_t a) { return f64_bits((double)a); }
+
+static inline uint64_t convert_i64_s(uint64_t a) { return f64_bits(a >> 63 ? -(double)-a : (double)a); }
+
+static inline uint64_t convert_i32_u(uint32_t a) { return f64_bits((double)a); }
+
+static inline uint64_t convert_i32_s(uint32_t a) { return convert_i64_s(extend32_64(a)); }
+
+static inline uint64_t promote_f32(uint32_t a) { return f64_bits(f32_of(a)); }
+
+static inline uint32_t demote_f64(uint64_t a) { return f32_bits((float)f64_of(a)); }
+
+/* The heap is C's, or what a program names. Where an address has 32 bits, malloc may return a multiple of 8, and the code takes a block to
+   begin at a multiple of 16; PUFFGRIT_MALLOC_ALIGNS says that it does. */
+#if !defined(PUFFGRIT_MALLOC)
+#include <stdlib.h>
+#define PUFFGRIT_MALLOC malloc
+#define PUFFGRIT_REALLOC realloc
+#define PUFFGRIT_FREE free
+#endif
+#if !defined(PUFFGRIT_MALLOC_ALIGNS) && UINTPTR_MAX > 0xffffffffu
+#define PUFFGRIT_MALLOC_ALIGNS
+#endif
+
+/* A block of so many bytes, or 0. Before one that was moved to a multiple of 16 stands the address that malloc returned. */
+static inline uint64_t heap_get(uint64_t bytes) {
+#if defined(PUFFGRIT_MALLOC_ALIGNS)
+    return bytes > PTRDIFF_MAX ? 0 : ADDRESS(PUFFGRIT_MALLOC((size_t)bytes));
+#else
+    uint64_t got, at;
+    if (bytes > PTRDIFF_MAX - 32) return 0;
+    got = ADDRESS(PUFFGRIT_MALLOC((size_t)bytes + 32u));
+    if (got == 0) return 0;
+    at = (got + 31u) & ~(uint64_t)15;
+    st64(at - 8, got);
+    return at;
+#endif
+}
+
+static inline void heap_free(uint64_t at) {
+#if defined(PUFFGRIT_MALLOC_ALIGNS)
+    PUFFGRIT_FREE(AT(at));
+#else
+    PUFFGRIT_FREE(AT(ld64(at - 8)));
+#endif
+}
+
+static inline uint64_t heap_resize(uint64_t at, uint64_t kept, uint64_t bytes) {
+#if defined(PUFFGRIT_MALLOC_ALIGNS)
+    (void)kept;
+    return bytes > PTRDIFF_MAX ? 0 : ADDRESS(PUFFGRIT_REALLOC(AT(at), (size_t)bytes));
+#else
+    uint64_t got = heap_get(bytes);
+    if (got == 0) return 0;
+    copy(got, at, kept < bytes ? kept : bytes);
+    heap_free(at);
+    return got;
+#endif
+}
+
+/* What the code asks of the heap. The answer is whether there is memory, and where; an address that is none's if there isn't. */
+static inline void heap_answer(uint64_t to, uint64_t got) {
+    static const uint8_t none = 0;
+    st64(to, got != 0);
+    st64(to + 8, got != 0 ? got : ADDRESS(&none));
+}
+
+static inline void rattle_alloc(uint64_t to, uint64_t bytes, uint64_t align) { heap_answer(to, heap_get(bytes != 0 ? bytes : align)); }
+
+static inline void rattle_realloc(uint64_t to, uint64_t at, uint64_t kept, uint64_t bytes, uint64_t align) {
+    heap_answer(to, heap_resize(at, kept, bytes != 0 ? bytes : align));
+}
+
+static inline void rattle_dealloc(uint64_t at) { heap_free(at); }

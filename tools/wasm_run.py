@@ -1,7 +1,9 @@
 """Runs a module of wasm_module.py in Python, by the rules of WebAssembly (Core 2.0, section 4), and makes modules by chance: what
 tools/test-release compares the C of wasm_to_c.py with. It knows nothing of wasm_to_c.py."""
 
+import math
 import random
+import struct
 
 from wasm_module import BINARY, EXTENSIONS, I32, I64, NOTHING, TESTS, Body, Module, Signature
 
@@ -34,6 +36,40 @@ def compute(name, bits, a, b=0):
         "rotl": lambda: a << n | a >> (bits - n), "rotr": lambda: a >> n | a << (bits - n), "wrap_i64": lambda: a, "extend_i32_u": lambda: a,
     }  # fmt: skip
     return int(found[name]()) % (1 << bits)
+
+
+def number_of(n, bits):
+    """The float of these bits."""
+    return struct.unpack("<f" if bits == 32 else "<d", n.to_bytes(bits // 8, "little"))[0]
+
+
+def bits_of(number, bits):
+    try:
+        return int.from_bytes(struct.pack("<f" if bits == 32 else "<d", number), "little")
+    except OverflowError:
+        return bits_of(math.copysign(math.inf, number), bits)
+
+
+def ratio(a, b):
+    if b == 0:
+        return math.nan if a == 0 or a != a else math.copysign(math.inf, a) * math.copysign(1, b)
+    return a / b
+
+
+def compute_float(name, bits, a, b=0):
+    """An instruction that takes or makes floats, over their bits, of which `bits` is the result's or the operands' number."""
+    what = name.partition(".")[2]
+    top, (fa, fb) = 1 << (bits - 1), (number_of(it % (1 << bits), bits) for it in (a, b))
+    found = {
+        "eq": lambda: int(fa == fb), "ne": lambda: int(fa != fb), "lt": lambda: int(fa < fb), "gt": lambda: int(fa > fb),
+        "le": lambda: int(fa <= fb), "ge": lambda: int(fa >= fb), "abs": lambda: a & (top - 1), "neg": lambda: a ^ top,
+        "copysign": lambda: a & (top - 1) | b & top, "convert_i32_s": lambda: bits_of(float(signed(a, 32)), bits),
+        "convert_i32_u": lambda: bits_of(float(a), bits), "convert_i64_s": lambda: bits_of(float(signed(a, 64)), bits),
+        "convert_i64_u": lambda: bits_of(float(a), bits), "promote_f32": lambda: bits_of(number_of(a, 32), 64),
+        "demote_f64": lambda: bits_of(number_of(a, 64), 32), "add": lambda: bits_of(fa + fb, bits), "sub": lambda: bits_of(fa - fb, bits),
+        "mul": lambda: bits_of(fa * fb, bits), "div": lambda: bits_of(ratio(fa, fb), bits),
+    }  # fmt: skip
+    return a if what.startswith("reinterpret") else found[what]()
 
 
 def ends(code):
@@ -288,8 +324,10 @@ class Maker:
         self.free, self.counters = [8, 9], [self.frame] * (self.frame is not None)
         code = []
         if self.frame is not None:
-            # zeros in it
+            # zeros in it; who calls none may leave the stack pointer as it is
             code = [("global.get", 0), ("i64.const", SIZE), ("i64.sub",), ("local.tee", 10), ("global.set", 0)]
+            if not self.module.functions and self.chance.random() < 0.5:
+                code = [("global.get", 0), ("local.set", 10), ("local.get", 10), ("i64.const", SIZE), ("i64.sub",), ("local.set", 10)]
             code += [("local.get", 10), ("i32.const", 0), ("i64.const", SIZE), ("memory.fill", 0)]
         code += [*self.statement(depth), *self.statement(depth), *self.value(kind, depth), ("end",)]
         self.module.functions.append(Signature(self.PARAMETERS, [kind]))

@@ -1,8 +1,9 @@
 """Writes the functions of a WebAssembly module (wasm_module.py) as C99.
 
 An address is a pointer's number, of 64 bits on any machine; a frame of the module's stack is an array of the C function; the module's
-data are a constant array. So the C has no memory of its own, no state and no runtime but the functions of portable.h. What that doesn't
-cover is refused: a frame whose size isn't constant, data that hold addresses, a global but the stack pointer.
+data are a constant array, or a constant struct where they hold addresses; a float is the number of its bits. So the C has no memory of its
+own, no state and no runtime but the functions of portable.h, which are also what a module may import. What that doesn't cover is refused:
+a frame whose size isn't constant, a global but the stack pointer.
 
 A value on the module's stack is a C expression that is written where it is used. It becomes a constant of its own before a local that is in it
 is set, before memory that it reads is written, and before a block begins.
@@ -10,16 +11,20 @@ is set, before memory that it reads is written, and before a block begins.
 
 import re
 import textwrap
+from collections import Counter
 from dataclasses import dataclass
 from pathlib import Path
 
-from wasm_module import NOTHING, Refused, expect
+from wasm_module import F32, F64, FILLS, FLOAT_BINARY, FLOAT_TESTS, I32, I64, NOTHING, OWN, Refused, expect
 
-TYPES = {0x7F: "uint32_t", 0x7E: "uint64_t"}
-BITS = {0x7F: 32, 0x7E: 64}
+BITS = {I32: 32, F32: 32, I64: 64, F64: 64}
 OF_BITS = {32: "uint32_t", 64: "uint64_t"}
+TYPES = {kind: OF_BITS[bits] for kind, bits in BITS.items()}
 
 TEMPLATE = Path(__file__).with_name("portable.h")
+
+# The bytes below the stack pointer that a function which calls none may use without setting it (LLVM's red zone for WebAssembly).
+BELOW = 128
 
 # The longest expression, and the longest line, in characters.
 LONG, WIDE = 90, 140
@@ -30,8 +35,6 @@ SIGNED = {"lt_s": (False, True), "gt_s": (True, True), "le_s": (True, False), "g
 OPERATORS = {"add": "+", "sub": "-", "mul": "*", "and": "&", "or": "|", "xor": "^"}
 SHIFTS = {"shl": "<<", "shr_u": ">>"}
 CALLED = ["div_s", "div_u", "rem_s", "rem_u", "shr_s", "rotl", "rotr"]
-# Where the bytes of a linked module's own functions begin.
-OWN = ["__wasm_call_ctors", "__wasm_apply_data_relocs"]
 
 
 @dataclass(frozen=True)
@@ -99,6 +102,13 @@ def compare(name, bits, a, b):
     return tested(*((test, f"!{test}") if is_less else (f"!{test}", test)), a, b)
 
 
+def compare_floats(name, bits, a, b):
+    """A number that is none is neither less than another one nor equal to it, so a test can't be turned round."""
+    of = f"f{bits}_of"
+    test = f"{of}({a.text}) {TESTS.get(name, TESTS.get(f'{name}_u'))[0]} {of}({b.text})"
+    return tested(test, f"!({test})", a, b)
+
+
 def arithmetic(name, bits, a, b):
     if name in SHIFTS:
         count = str(b.number % bits) if b.number is not None else f"({b.operand()} & {bits - 1})"
@@ -114,12 +124,28 @@ def unary(name, bits, a):
     if name == "eqz":
         test = (a.test[1], a.test[0]) if a.test else (f"{a.operand()} == 0", f"{a.operand()} != 0")
         return tested(*test, a)
+    if name.startswith("reinterpret"):
+        return a
     if name in ("wrap_i64", "extend_i32_u"):
         return combine(f"({OF_BITS[bits]}){a.operand()}", bits, a)
     if name == "extend_i32_s":
         return combine(f"extend32_64((uint64_t){a.operand()})", 64, a)
     extended = re.fullmatch(r"extend(\d+)_s", name)
     return combine(f"extend{extended[1]}_{bits}({a.text})" if extended else f"{name}{bits}({a.text})", bits, a)
+
+
+def float_of(name, bits, a, b=None):
+    """What makes a float of one number, or of two."""
+    sign = constant(1 << (bits - 1), bits)
+    if name == "abs":
+        return arithmetic("and", bits, a, constant(~sign.number, bits))
+    if name == "neg":
+        return arithmetic("xor", bits, a, sign)
+    if name == "copysign":
+        return arithmetic("or", bits, arithmetic("and", bits, a, constant(~sign.number, bits)), arithmetic("and", bits, b, sign))
+    if b is not None:
+        return combine(f"{name}_f{bits}({a.text}, {b.text})", bits, a, b)
+    return a if name.startswith("reinterpret") else combine(f"{name}({a.text})", bits, a)
 
 
 def load(name, address, offset):
@@ -287,13 +313,17 @@ class Function:
         if name == "__memory_base":
             self.stack.append(Value("DATA", 64))
             return 1
-        expect(name == "__stack_pointer", f"the global {name}")
+        expect(name == "__stack_pointer" and self.frame is None, f"the global {name}")
         (first, *size), second = self.body.code[self.at + 1 : self.at + 3]
-        expect((first, second) == ("i64.const", ("i64.sub",)), "a frame whose size isn't constant")
-        expect(self.frame is None and size[0] > 0 and size[0] % 16 == 0, f"a frame of {size[0]} bytes")
-        self.frame = size[0]
-        self.stack.append(Value("FRAME_AT(frame)", 64))
-        return 3
+        if (first, second) == ("i64.const", ("i64.sub",)):
+            expect(size[0] > 0 and size[0] % 16 == 0, f"a frame of {size[0]} bytes")
+            self.frame = size[0]
+            self.stack.append(Value("FRAME_AT(frame)", 64))
+            return 3
+        expect(not {"call", "global.set"} & {it[0] for it in self.body.code}, "a frame whose size isn't constant")
+        self.frame = BELOW
+        self.stack.append(Value(f"FRAME_AT(frame) + {BELOW}u", 64, is_atom=False))
+        return 1
 
     def set_global(self, k):
         expect(self.module.globals[k] == "__stack_pointer", "a global that is set")
@@ -308,7 +338,11 @@ class Function:
         """An instruction that makes a number of one or of two."""
         kind, _, name = name.partition(".")
         bits = int(kind[1:])
-        if name in TESTS or name in SIGNED:
+        if kind[0] == "f":
+            b = self.pop() if name in (*FLOAT_TESTS, "copysign") or f"{kind}.{name}" in FLOAT_BINARY else None
+            a = self.pop()
+            self.push(compare_floats(name, bits, a, b) if name in FLOAT_TESTS else float_of(name, bits, a, b))
+        elif name in TESTS or name in SIGNED:
             b, a = self.pop(), self.pop()
             self.push(compare(name, bits, a, b))
         elif name in OPERATORS or name in SHIFTS or name in CALLED:
@@ -383,17 +417,19 @@ class Function:
         return self.whole()
 
     def whole(self):
-        """The function with its head and its variables."""
+        """The function with its head and its variables. What isn't read, as a result that is dropped, gets no name."""
         body = "\n".join(self.lines)
+        named = Counter(re.findall(r"\bt\d+\b", body))
+        body = re.sub(r"const \w+ (t\d+) = ", lambda it: it[0] if named[it[1]] > 1 else "(void)", body)
         lines = [head(self.module, self.index, self.names, True) + " {"]
-        if self.frame:
+        if "FRAME_AT(frame)" in body:
             lines.append(f"    FRAME(frame, {self.frame});")
         first = len(self.signature.parameters)
-        for kind, name in TYPES.items():
-            found = [self.local(k) for k, it in enumerate(self.types) if k >= first and it == kind and re.search(rf"\bv{k}\b", body)]
+        for bits, name in OF_BITS.items():
+            found = [self.local(k) for k, it in enumerate(self.types) if k >= first and BITS[it] == bits and re.search(rf"\bv{k}\b", body)]
             lines += textwrap.wrap(f"{name} " + ", ".join(f"{it} = 0" for it in found) + ";", WIDE, initial_indent="    ", subsequent_indent="        ") if found else []
         lines += [f"    (void)a{k};" for k in range(first) if not re.search(rf"\ba{k}\b", body)]
-        return "\n".join([*lines, *self.lines, "}"])
+        return "\n".join([*lines, body, "}"])
 
 
 def head(module, number, names, is_named):
@@ -403,9 +439,9 @@ def head(module, number, names, is_named):
 
 
 def names_of(module):
-    """The functions' names in C: an exported one's, or the end of its path with its number."""
-    found = {}
-    for number in range(len(module.functions)):
+    """The functions' names in C: an imported one's, an exported one's, or the end of its path with its number."""
+    found = dict(enumerate(module.imports))
+    for number in range(len(module.imports), len(module.functions)):
         path = module.names.get(number, "")
         while "<" in path:
             path = path[: path.rindex("<")] + path[path.rindex("<") :].partition(">")[2]
@@ -414,23 +450,47 @@ def names_of(module):
     return found
 
 
-def data(module):
-    """The data as an array: of a byte at least, since an address of no bytes is one too."""
+def contents(module):
+    """The bytes of the data: one at least, since an address of no bytes is one too."""
     content = bytearray(max(1, module.size))
     for at, it in module.data:
         expect(at + len(it) <= module.size, "data beyond their end")
         content[at : at + len(it)] = it
     expect(module.alignment <= 4, "data that begin at a multiple of more than 16")
-    rows = textwrap.wrap(", ".join(map(str, content)), WIDE - 4, initial_indent="    ", subsequent_indent="    ")
-    return ["static const union {", f"    uint8_t bytes[{len(content)}];", "    uint64_t words[2];", "} ALIGNED data = {{", *rows, "}};", ""]
+    return content
+
+
+def in_rows(words):
+    return textwrap.wrap(", ".join(words), WIDE - 4, initial_indent="    ", subsequent_indent="    ")
+
+
+def data(module):
+    """The data as an array; or as a struct of arrays, and of addresses, each of which has 8 bytes."""
+    content = contents(module)
+    if not module.addresses:
+        rows = in_rows(map(str, content))
+        return ["static const union {", f"    uint8_t bytes[{len(content)}];", "    uint64_t words[2];", "} ALIGNED data = {{", *rows, "}};", ""]
+    fields, values, end = [], [], 0
+    for at, to in [*sorted(module.addresses.items()), (len(content), None)]:
+        expect(at >= end and (at % 8 == 0 or to is None), f"an address at {at} of the data")
+        if at > end:
+            fields.append(f"uint8_t b{end}[{at - end}];")
+            values += [("{" if k == end else "") + str(content[k]) + ("}" if k == at - 1 else "") for k in range(end, at)]
+        if to is not None:
+            fields.append(f"InData a{at};")
+            values.append(f"IN_DATA({to})")
+        end = at + 8
+    return ["static const struct {", *textwrap.wrap(" ".join(fields), WIDE, initial_indent="    ", subsequent_indent="    "), "} ALIGNED data = {", *in_rows(values), "};", ""]
 
 
 def write(module):
     """Returns the module's functions as C."""
+    known = {name for names, _ in parts() for it in names for name in it}
+    expect(set(module.imports) <= known, f"the module imports {sorted(set(module.imports) - known)}")
     for number, body in enumerate(module.bodies):
-        expect(module.names.get(number) not in OWN or body.code == [("end",)], "data that hold addresses")
+        expect(module.names.get(number) != FILLS or body.code == [("end",)], "data that are filled in")
     names, texts = names_of(module), []
-    numbers = [it for it in range(len(module.functions)) if module.names.get(it) not in OWN]
+    numbers = [it for it in range(len(module.imports), len(module.functions)) if module.names.get(it) not in OWN]
     for number in numbers:
         try:
             texts.append(Function(module, number, names).write())
