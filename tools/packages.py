@@ -69,10 +69,9 @@ def native(to, version, prefix, soname):
     return tar(to / f"{top}.tar.gz", top, {**files, **licenses()}, {"lib/libpuffgrit.so": soname})
 
 
-def portable(to, version):
-    """The calls that look as C99, with their header."""
-    files = {name: (BINDINGS / "c" / name).read_bytes() for name in ["puffgrit.h", "README.md"]} | folder(BINDINGS / "c" / "portable")
-    top = f"puffgrit-look-{version}"
+def portable(to, top, sources):
+    """C99 by the names of its files, with the header."""
+    files = {name: (BINDINGS / "c" / name).read_bytes() for name in ["puffgrit.h", "README.md"]} | sources
     return tar(to / f"{top}.tar.gz", top, {**files, **licenses()})
 
 
@@ -84,10 +83,12 @@ def crate(to, version):
 
 
 NPM = ["index.mjs", "index.d.ts", "puffgrit.mjs", "puffgrit.d.ts", "puffgrit_32.wasm", "package.json", "README.md"]
+NPM += ["all.mjs", "all.d.ts", "messages.mjs", "messages.d.ts", "kinds.mjs"]
 
 
-def npm(to, version):
-    files = {name: (BINDINGS / "wasm" / name).read_bytes() for name in NPM}
+def npm(to, version, module):
+    """The calls that look, and all of them by this module."""
+    files = {name: (BINDINGS / "wasm" / name).read_bytes() for name in NPM} | {"puffgrit_all_32.wasm": module}
     return tar(to / f"puffgrit-npm-{version}.tgz", "package", {**files, **licenses()})
 
 

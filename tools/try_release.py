@@ -1,6 +1,7 @@
 """Uses what tools/release made as somebody has it who has neither the toolchain nor the network: each archive is unpacked or installed in a
 folder of its own, and prints the algorithms of bench/messages/info.hex."""
 
+import functools
 import os
 import shutil
 import subprocess
@@ -20,12 +21,15 @@ ALGORITHMS = "-7\n-8\n"
 JAVASCRIPT = """\
 import { readFileSync } from "node:fs";
 import puffgrit, { NEGATIVE } from "puffgrit";
+import all, { Fault } from "puffgrit/all";
 const bytes = new Uint8Array(Buffer.from(readFileSync(process.argv[2], "utf8").trim(), "hex"));
 const list = puffgrit.member(bytes, 0, 10);
 for (let at = list.content; at < list.end; at = puffgrit.itemAt(bytes, at).end) {
   const algorithm = puffgrit.member(bytes, at, "alg");
   console.log(String(algorithm.kind === NEGATIVE ? -1n - algorithm.number : algorithm.number));
 }
+const decoded = all.decode("info", bytes), again = all.rewrite("info", bytes);
+if (!decoded.versions.includes("FIDO_2_0") || all.explain("info", again) || !(all.explain("info", bytes.slice(1)) instanceof Fault)) process.exit(1);
 """
 
 RUST = """\
@@ -42,11 +46,19 @@ fn main() {
 CARGO = '[package]\nname = "user"\nversion = "0.1.0"\nedition = "2021"\n\n[dependencies]\npuffgrit = {{ path = "{crate}" }}\n'
 
 
+@functools.cache
+def alone():
+    """What runs a command without a network, where that is allowed."""
+    words = ["unshare", "--net"]
+    is_allowed = shutil.which(words[0]) and subprocess.run([*words, "true"], capture_output=True, check=False).returncode == 0
+    return words if is_allowed else []
+
+
 def run(words, folder, **more):
-    """What the command prints, without the toolchain on the path; its error if it fails."""
+    """What the command prints, without the toolchain on the path and without a network; its error if it fails."""
     environment = {key: it for key, it in os.environ.items() if not key.startswith(("PYTHON", "PUFFGRIT"))}
     environment |= {"PATH": os.environ["PATH"] if shutil.which("rt") is None else without_rt(), "PYTHONDONTWRITEBYTECODE": "1", **more}
-    done = subprocess.run([str(it) for it in words], cwd=folder, env=environment, stdin=INFO.open("rb"), capture_output=True, text=True, check=False)
+    done = subprocess.run([*alone(), *(str(it) for it in words)], cwd=folder, env=environment, stdin=INFO.open("rb"), capture_output=True, text=True, check=False)
     return done.stdout if done.returncode == 0 else f"{words[0]} ended with {done.returncode}: {done.stderr[-400:]}"
 
 
@@ -74,11 +86,20 @@ def native(archive, folder):
     return said if said != ALGORITHMS else run([*needs.CC, source, f"-I{top}/include", top / "lib" / "libpuffgrit.a", "-o", made], folder) + run([made], folder)
 
 
-def look(archive, folder):
+def portable(archive, folder):
+    """With the one file of C99 that is in it."""
     top = unpacked(archive, folder)
-    made = folder / "algorithms"
-    words = [*needs.CC, "-std=c99", "-Wall", "-Wextra", "-pedantic", "-Werror", ROOT / "bindings" / "c" / "algorithms.c", top / "puffgrit_look.c", f"-I{top}", "-o", made]
+    sources, made = [ROOT / "bindings" / "c" / "algorithms.c", *top.glob("*.c")], folder / "algorithms"
+    words = [*needs.CC, "-std=c99", "-Wall", "-Wextra", "-pedantic", "-Werror", *sources, f"-I{top}", "-o", made]
     return run(words, folder) + run([made], folder)
+
+
+def python_source(archive, folder):
+    """With the library of the archive for C."""
+    top, prefix = unpacked(archive, folder), folder / "prefix"
+    library = unpacked(next(archive.parent.glob("*-x86_64-linux.tar.gz")), prefix) / "lib" / "libpuffgrit.so"
+    script = shutil.copy(ROOT / "bindings" / "python" / "algorithms.py", folder)
+    return run([sys.executable, script], folder, PYTHONPATH=str(top), PUFFGRIT_LIBRARY=str(library))
 
 
 def wheel(archive, folder):
@@ -95,11 +116,17 @@ def wheel(archive, folder):
 
 
 def npm(archive, folder):
+    """By npm, or unpacked where there is none."""
     if not shutil.which("node"):
         return None
-    top = unpacked(archive, folder)
-    (folder / "node_modules").mkdir()
-    top.rename(folder / "node_modules" / "puffgrit")
+    if shutil.which("npm"):
+        (folder / "package.json").write_text("{}\n", encoding="utf-8")
+        said = run(["npm", "install", "--offline", "--silent", "--no-audit", "--no-fund", archive], folder, HOME=str(folder))
+        if "ended" in said:
+            return said
+    else:
+        (folder / "node_modules").mkdir()
+        unpacked(archive, folder).rename(folder / "node_modules" / "puffgrit")
     (folder / "user.mjs").write_text(JAVASCRIPT, encoding="utf-8")
     return run(["node", "user.mjs", INFO], folder)
 
@@ -115,7 +142,8 @@ def crate(archive, folder):
 
 
 # How each archive is used, by what its name ends with or has in it.
-USES = {"-x86_64-linux.tar.gz": native, "puffgrit-look-": look, ".whl": wheel, ".tgz": npm, ".crate": crate}
+USES = {"-x86_64-linux.tar.gz": native, "puffgrit-look-": portable, "puffgrit-c-": portable, ".whl": wheel, ".tgz": npm, ".crate": crate}
+USES |= {".tar.gz": python_source}
 
 
 def run_all(archives):

@@ -296,8 +296,9 @@ class Function:
 
     def set_local(self, name, k):
         value = self.pop()
-        self.settle(lambda it: k in it.locals)
-        self.emit(f"{self.local(k)} = {value.text};")
+        if value.text != self.local(k):
+            self.settle(lambda it: k in it.locals)
+            self.emit(f"{self.local(k)} = {value.text};")
         if name == "local.tee":
             self.get_local(k)
 

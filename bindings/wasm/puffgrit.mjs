@@ -40,12 +40,21 @@ const isText = (text) => !/\p{Surrogate}/u.test(text);
 
 /** Returns the calls of a module: of its bytes, or of a WebAssembly.Module. */
 export async function load(source) {
+  return looks(await instantiate(source));
+}
+
+/** Returns what the module exports. */
+export async function instantiate(source) {
   const made = await WebAssembly.instantiate(source, {});
-  const calls = (made.instance ?? made).exports;
+  return (made.instance ?? made).exports;
+}
+
+/** Returns what places bytes in a module's memory. */
+export function placing(calls) {
   const base = Number(calls.__heap_base.value); // the stack lies below
 
   /** Writes the parts one after the other, each at a multiple of 8, with room for `more` bytes; returns their places and the room's. */
-  function put(parts, more) {
+  return function put(parts, more) {
     const places = [];
     let place = base;
     for (const part of parts) {
@@ -64,8 +73,12 @@ export async function load(source) {
     const memory = new Uint8Array(calls.memory.buffer);
     parts.forEach((part, k) => memory.set(part, places[k]));
     return [...places, place];
-  }
+  };
+}
 
+/** Returns the calls that look, of what a module exports. */
+export function looks(calls) {
+  const put = placing(calls);
   const slice = (place, bytes) => [BigInt(place), BigInt(bytes.length)];
   const is = (result) => (Number(result) & 1) === 1;
 

@@ -1,0 +1,33 @@
+import type { Puffgrit } from "./puffgrit.mjs";
+
+export * from "./puffgrit.mjs";
+
+/** The kinds of `rewrite`, of `decode` and of `explain`. */
+export const KINDS: readonly string[];
+export const DECODED: readonly string[];
+export const EXPLAINED: readonly string[];
+
+/** Why an input is rejected: its first fault. */
+export class Fault extends Error {
+  /** Its name, as `Refused`; `NotAMap` of a JSON value that is no object. */
+  fault: string;
+  /** The number of the message's member that it is about. */
+  member: number | null;
+  /** Where and why, as "user.id: a byte string is wanted (offset 58, length 10)"; null for kinds that `explain` hasn't. */
+  explanation: string | null;
+  /** The offset and the length of what is refused. */
+  offset: number | null;
+  length: number | null;
+}
+
+/** All calls of a module. Those below throw Fault, RangeError for a kind that they don't have or for lack of memory. */
+export interface PuffgritAll extends Puffgrit {
+  version(): number;
+  rewrite(kind: string, bytes: Uint8Array): Uint8Array;
+  rewriteFront(kind: string, bytes: Uint8Array): { bytes: Uint8Array; read: number };
+  decode(kind: string, bytes: Uint8Array): unknown;
+  decodeFront(kind: string, bytes: Uint8Array): { value: unknown; read: number };
+  explain(kind: string, bytes: Uint8Array): Fault | null;
+}
+
+export function loadAll(source: BufferSource | WebAssembly.Module): Promise<PuffgritAll>;
