@@ -86,12 +86,35 @@ def native(archive, folder):
     return said if said != ALGORITHMS else run([*needs.CC, source, f"-I{top}/include", top / "lib" / "libpuffgrit.a", "-o", made], folder) + run([made], folder)
 
 
+def aarch64(archive, folder):
+    """With the static library, under qemu."""
+    compiler, emulator = "aarch64-linux-gnu-gcc", "qemu-aarch64"
+    if not shutil.which(compiler) or not shutil.which(emulator):
+        return None
+    top, made = unpacked(archive, folder), folder / "algorithms"
+    words = [compiler, "-static", ROOT / "bindings" / "c" / "algorithms.c", f"-I{top}/include", top / "lib" / "libpuffgrit.a", "-o", made]
+    return run(words, folder) + run([emulator, made], folder)
+
+
 def portable(archive, folder):
     """With the one file of C99 that is in it."""
     top = unpacked(archive, folder)
     sources, made = [ROOT / "bindings" / "c" / "algorithms.c", *top.glob("*.c")], folder / "algorithms"
     words = [*needs.CC, "-std=c99", "-Wall", "-Wextra", "-pedantic", "-Werror", *sources, f"-I{top}", "-o", made]
     return run(words, folder) + run([made], folder)
+
+
+def debian(archive, folder):
+    """Both packages, in a folder that stands for the root."""
+    for it in archive.parent.glob("*.deb"):
+        subprocess.run(["dpkg-deb", "--extract", it, folder], check=True)
+    lib, made = folder / "usr" / "lib" / "x86_64-linux-gnu", folder / "algorithms"
+    words = [f"-I{folder}/usr/include", f"-L{lib}", "-lpuffgrit"]
+    if shutil.which("pkg-config"):
+        said = {"PKG_CONFIG_PATH": f"{lib}/pkgconfig", "PKG_CONFIG_SYSROOT_DIR": str(folder)}
+        said |= {"PKG_CONFIG_ALLOW_SYSTEM_CFLAGS": "1", "PKG_CONFIG_ALLOW_SYSTEM_LIBS": "1"}
+        words = run(["pkg-config", "--cflags", "--libs", "puffgrit"], folder, **said).split()
+    return run([*needs.CC, ROOT / "bindings" / "c" / "algorithms.c", *words, "-o", made], folder) + run([made], folder, LD_LIBRARY_PATH=str(lib))
 
 
 def python_source(archive, folder):
@@ -143,7 +166,7 @@ def crate(archive, folder):
 
 # How each archive is used, by what its name ends with or has in it.
 USES = {"-x86_64-linux.tar.gz": native, "puffgrit-look-": portable, "puffgrit-c-": portable, ".whl": wheel, ".tgz": npm, ".crate": crate}
-USES |= {".tar.gz": python_source}
+USES |= {"-aarch64-linux.tar.gz": aarch64, "libpuffgrit-dev_": debian, ".tar.gz": python_source}
 
 
 def run_all(archives):
