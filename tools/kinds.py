@@ -9,16 +9,21 @@ CRATES = Path(__file__).resolve().parent.parent / "crates"
 TABLES = [
     ("BytesKind", "passkey_run/src/kind.rt", False),
     ("JsonKind", "passkey_run/src/kind.rt", True),
-    ("FurtherKind", "passkey_catalogue/src/further_kind.rt", False),
-    ("FurtherJsonKind", "passkey_catalogue/src/json_kind.rt", True),
+    ("CtapKind", "passkey_catalogue/src/ctap_kind.rt", False),
+    ("ClientKind", "passkey_catalogue/src/client_kind.rt", True),
 ]
 NUMBERS = "passkey_catalogue/src/kind.rt"
 
 
+def rows_of(table):
+    """Returns the rows of an enumeration's table: each name, and the value. A long row is on several lines."""
+    enumeration, file, _ = table
+    return re.findall(rf'\(\s*"([a-z0-9-]+)",\s*{enumeration}::(\w+),?\s*\)', (CRATES / file).read_text(encoding="utf-8"))
+
+
 def names_of(table):
     """Returns the names of an enumeration's values, in the order of its table."""
-    enumeration, file, _ = table
-    return re.findall(rf'\("([a-z0-9-]+)", {enumeration}::\w+\)', (CRATES / file).read_text(encoding="utf-8"))
+    return [name for name, _ in rows_of(table)]
 
 
 def docs():
@@ -29,7 +34,7 @@ def docs():
         text = (CRATES / file).read_text(encoding="utf-8")
         body = text.partition(f"pub enum {enumeration} {{\n")[2].partition("\n}")[0]
         told = {name: " ".join(it.strip().removeprefix("/// ") for it in said.splitlines()) for said, name in re.findall(r"((?: *///.*\n)+) *(\w+),", body)}
-        found.update((name, told[value]) for name, value in re.findall(rf'\("([a-z0-9-]+)", {enumeration}::(\w+)\)', text))
+        found.update((name, told[value]) for name, value in rows_of(table))
     return found
 
 

@@ -3,15 +3,15 @@ use Rattle.std.specs.Prelude.{ℕ, Bool, List, false, true, Option, Some, None, 
 use Rattle.passkey_attestation.specs.declared.format.AttestationFormat.TheVariants as format
 use Rattle.passkey_commands.specs.bio_enrollment.BioRequest.{bio_request}
 use Rattle.passkey_commands.specs.bio_enrollment.BioResponse.{bio_response}
-use Rattle.passkey_catalogue.specs.JsonKinds.{further_json_kinds}
-use Rattle.passkey_catalogue.specs.Kinds.{further_kinds}
+use Rattle.passkey_catalogue.specs.ClientKinds.{client_kinds}
+use Rattle.passkey_catalogue.specs.CtapKinds.{ctap_kinds}
 use Rattle.passkey_catalogue.specs.Numbers.{value_from}
-use Rattle.passkey_catalogue.specs.contracts.further_kind.FurtherKind.{the_type as the_further_kind}
-use Rattle.passkey_catalogue.specs.contracts.json_kind.FurtherJsonKind.{the_type as the_further_json_kind}
+use Rattle.passkey_catalogue.specs.contracts.ctap_kind.CtapKind.{the_type as the_ctap_kind}
+use Rattle.passkey_catalogue.specs.contracts.client_kind.ClientKind.{the_type as the_client_kind}
 use Rattle.passkey_catalogue.specs.declared.form.Form.TheVariants as form
 use Rattle.passkey_catalogue.specs.declared.form.Form.{Form}
-use Rattle.passkey_catalogue.specs.declared.further_kind.FurtherKind.TheVariants as further
-use Rattle.passkey_catalogue.specs.declared.further_kind.FurtherKind.{FurtherKind}
+use Rattle.passkey_catalogue.specs.declared.ctap_kind.CtapKind.TheVariants as ctap
+use Rattle.passkey_catalogue.specs.declared.ctap_kind.CtapKind.{CtapKind}
 use Rattle.passkey_catalogue.specs.declared.kind.Kind.TheVariants as kind
 use Rattle.passkey_catalogue.specs.declared.kind.Kind.{Kind}
 use Rattle.passkey_commands.specs.client_pin.PinRequest.{pin_request}
@@ -47,43 +47,43 @@ by_table t = message (numbered_fields t) (plain_tree t)
 abbrev by_names : {M : Type 0} → PlainTable M → Definition Form
 by_names t = message (table_fields false t) (plain_tree t)
 
-abbrev pub further_definition : FurtherKind → Definition Form
-further_definition further.PinRequest = by_table pin_request
-further_definition further.PinResponse = by_table pin_response
-further_definition further.BioRequest = by_table bio_request
-further_definition further.BioResponse = by_table bio_response
-further_definition further.CredentialRequest = by_table cm_request
-further_definition further.CredentialResponse = by_table cm_response
-further_definition further.BlobsRequest = by_table lb_request
-further_definition further.BlobsResponse = by_table lb_response
-further_definition further.BlobsEntry = by_table large_blob
-further_definition further.ConfigRequest = by_table cfg_request
-further_definition further.ConfigMinPinLength = by_table min_pin_length_parameters
-further_definition further.ConfigVendor = by_table vendor_parameters
-further_definition further.Key = other form.Key
-further_definition further.Info23 = by_table information
-further_definition further.MakeInputs = by_names make_credential_inputs
-further_definition further.MakeOutputs = by_names make_credential_outputs
-further_definition further.MakeUnsigned = by_names make_credential_unsigned
-further_definition further.GetInputs = by_names get_assertion_inputs
-further_definition further.GetOutputs = by_names get_assertion_outputs
-further_definition further.GetUnsigned = by_names get_assertion_unsigned
-further_definition further.PackedStatement = other (form.Statement format.Packed)
-further_definition further.TpmStatement = other (form.Statement format.Tpm)
-further_definition further.AndroidKeyStatement = other (form.Statement format.AndroidKey)
-further_definition further.SafetyNetStatement = other (form.Statement format.AndroidSafetyNet)
-further_definition further.FidoU2fStatement = other (form.Statement format.FidoU2f)
-further_definition further.NoneStatement = other (form.Statement format.None)
-further_definition further.AppleStatement = other (form.Statement format.Apple)
-further_definition further.CompoundStatement = other (form.Statement format.Compound)
-further_definition further.CertInfo = other form.CertInfo
-further_definition further.PubArea = other form.PubArea
+abbrev pub ctap_definition : CtapKind → Definition Form
+ctap_definition ctap.PinRequest = by_table pin_request
+ctap_definition ctap.PinResponse = by_table pin_response
+ctap_definition ctap.BioRequest = by_table bio_request
+ctap_definition ctap.BioResponse = by_table bio_response
+ctap_definition ctap.CredentialRequest = by_table cm_request
+ctap_definition ctap.CredentialResponse = by_table cm_response
+ctap_definition ctap.BlobsRequest = by_table lb_request
+ctap_definition ctap.BlobsResponse = by_table lb_response
+ctap_definition ctap.BlobsEntry = by_table large_blob
+ctap_definition ctap.ConfigRequest = by_table cfg_request
+ctap_definition ctap.ConfigMinPinLength = by_table min_pin_length_parameters
+ctap_definition ctap.ConfigVendor = by_table vendor_parameters
+ctap_definition ctap.Key = other form.Key
+ctap_definition ctap.Info23 = by_table information
+ctap_definition ctap.MakeInputs = by_names make_credential_inputs
+ctap_definition ctap.MakeOutputs = by_names make_credential_outputs
+ctap_definition ctap.MakeUnsigned = by_names make_credential_unsigned
+ctap_definition ctap.GetInputs = by_names get_assertion_inputs
+ctap_definition ctap.GetOutputs = by_names get_assertion_outputs
+ctap_definition ctap.GetUnsigned = by_names get_assertion_unsigned
+ctap_definition ctap.PackedStatement = other (form.Statement format.Packed)
+ctap_definition ctap.TpmStatement = other (form.Statement format.Tpm)
+ctap_definition ctap.AndroidKeyStatement = other (form.Statement format.AndroidKey)
+ctap_definition ctap.SafetyNetStatement = other (form.Statement format.AndroidSafetyNet)
+ctap_definition ctap.FidoU2fStatement = other (form.Statement format.FidoU2f)
+ctap_definition ctap.NoneStatement = other (form.Statement format.None)
+ctap_definition ctap.AppleStatement = other (form.Statement format.Apple)
+ctap_definition ctap.CompoundStatement = other (form.Statement format.Compound)
+ctap_definition ctap.CertInfo = other form.CertInfo
+ctap_definition ctap.PubArea = other form.PubArea
 
 abbrev pub definition : Kind → Definition Form
 definition (kind.Bytes k) = bytes_definition k
 definition (kind.Json k) = other (form.Json k)
-definition (kind.Further k) = further_definition k
-definition (kind.FurtherJson k) = other (form.FurtherJson k)
+definition (kind.Ctap k) = ctap_definition k
+definition (kind.Client k) = other (form.Client k)
 
 -- the first that is there
 abbrev or_else : {A : Type 0} → Option A → Option A → Option A
@@ -95,28 +95,28 @@ abbrev pub kind_named : List ℕ → Option Kind
 kind_named name =
     or_else (option_map (λ k. kind.Bytes k) (value_in bytes_kinds name))
     (or_else (option_map (λ k. kind.Json k) (value_in json_kinds name))
-    (or_else (option_map (λ k. kind.Further k) (value_in further_kinds name))
-    (option_map (λ k. kind.FurtherJson k) (value_in further_json_kinds name))))
+    (or_else (option_map (λ k. kind.Ctap k) (value_in ctap_kinds name))
+    (option_map (λ k. kind.Client k) (value_in client_kinds name))))
 
 abbrev pub name_of : Kind → List ℕ
 name_of (kind.Bytes k) = own_name the_bytes_kind bytes_kinds k
 name_of (kind.Json k) = own_name the_json_kind json_kinds k
-name_of (kind.Further k) = own_name the_further_kind further_kinds k
-name_of (kind.FurtherJson k) = own_name the_further_json_kind further_json_kinds k
+name_of (kind.Ctap k) = own_name the_ctap_kind ctap_kinds k
+name_of (kind.Client k) = own_name the_client_kind client_kinds k
 
 -- the kind with this number in C
 abbrev pub kind_numbered : ℕ → Option Kind
 kind_numbered n =
     or_else (option_map (λ k. kind.Bytes k) (value_from bytes_kinds 1 n))
     (or_else (option_map (λ k. kind.Json k) (value_from json_kinds 9 n))
-    (option_map (λ k. kind.Further k) (value_from further_kinds 14 n)))
+    (option_map (λ k. kind.Ctap k) (value_from ctap_kinds 14 n)))
 
 -- the kind at this place in the list of all kinds: those with a number in C at their number, and the others from 200 on
 abbrev pub kind_at : ℕ → Option Kind
-kind_at n = or_else (kind_numbered n) (option_map (λ k. kind.FurtherJson k) (value_from further_json_kinds 200 n))
+kind_at n = or_else (kind_numbered n) (option_map (λ k. kind.Client k) (value_from client_kinds 200 n))
 
 abbrev pub is_json : Kind → Bool
 is_json (kind.Bytes k) = false
-is_json (kind.Further k) = false
+is_json (kind.Ctap k) = false
 is_json (kind.Json k) = true
-is_json (kind.FurtherJson k) = true
+is_json (kind.Client k) = true

@@ -1,6 +1,6 @@
 pub mod Catalogue
-pub mod JsonKinds
-pub mod Kinds
+pub mod ClientKinds
+pub mod CtapKinds
 pub mod Numbers
 pub mod Rewriting
 pub mod Sources

@@ -1,7 +1,7 @@
 -- The standards that define what inputs of the kinds are, and their sections.
 use Rattle.std.specs.Prelude.{ℕ, List, codes}
-use Rattle.passkey_catalogue.specs.JsonKinds.{further_json_source}
-use Rattle.passkey_catalogue.specs.Kinds.{further_source}
+use Rattle.passkey_catalogue.specs.ClientKinds.{client_source}
+use Rattle.passkey_catalogue.specs.CtapKinds.{ctap_source}
 use Rattle.passkey_catalogue.specs.declared.kind.Kind.{Kind}
 use Rattle.passkey_catalogue.specs.declared.kind.Kind.TheVariants as kind
 use Rattle.passkey_run.specs.declared.kind.BytesKind.{BytesKind}
@@ -29,5 +29,5 @@ json_source json.ClientData = codes "WebAuthn Level 3, section 5.8.1"
 abbrev pub source_of : Kind → List ℕ
 source_of (kind.Bytes k) = bytes_source k
 source_of (kind.Json k) = json_source k
-source_of (kind.Further k) = further_source k
-source_of (kind.FurtherJson k) = further_json_source k
+source_of (kind.Ctap k) = ctap_source k
+source_of (kind.Client k) = client_source k

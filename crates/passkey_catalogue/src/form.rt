@@ -1,6 +1,6 @@
 //! What an input may be besides a data item, authenticator data and a message.
 
-use crate::json_kind::FurtherJsonKind;
+use crate::client_kind::ClientKind;
 use passkey_attestation::AttestationFormat;
 use passkey_run::JsonKind;
 
@@ -18,5 +18,5 @@ pub enum Form {
     /// A JSON text of this kind.
     Json(JsonKind),
     /// A JSON text of this kind.
-    FurtherJson(FurtherJsonKind),
+    Client(ClientKind),
 }

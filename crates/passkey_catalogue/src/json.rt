@@ -1,11 +1,11 @@
 //! JSON texts of any kind, decoded and encoded again.
 ghost use Rattle.std.specs.Prelude.{IfOk, IfErr, string_bytes, ⊤};
 ghost use Rattle.passkey_json.specs.Fault.{Gives};
-ghost use Rattle.passkey_catalogue.specs.JsonKinds.{capabilities_in, capabilities_rewritten, further_json_rewritten};
+ghost use Rattle.passkey_catalogue.specs.ClientKinds.{capabilities_in, capabilities_rewritten, client_rewritten};
 ghost use Rattle.passkey_run.specs.RewritesJson.{IsJsonRefusal, RewritesJson};
 ghost use Rattle.serde_json.specs.View.{view};
 
-use crate::json_kind::FurtherJsonKind;
+use crate::client_kind::ClientKind;
 use passkey_client::{
     AllAcceptedCredentialsOptions, ClientCapabilities, ClientExtensionInputs,
     ClientExtensionOutputs, CurrentUserDetailsOptions, MediatedOptions, PaymentData, TopOrigin,
@@ -47,33 +47,33 @@ fn rewrite_capabilities(alloc: Global, input: &[u8]) -> Result<String, RunFault>
 /// base64url. Returns `BadJson` if the input isn't a JSON text in UTF-8 of at most 127 nesting
 /// levels; `JsonRefused` if the kind rejects its value, of capabilities with
 /// `Refused("capabilities")` if a member is no boolean; and `OutOfMemory` if an allocation fails.
-pub fn rewrite_further_json(
+pub fn rewrite_client_json(
     alloc: Global,
-    kind: FurtherJsonKind,
+    kind: ClientKind,
     input: &[u8],
 ) -> Result<String, RunFault>
     ensures ok { IfOk result
-        (λ text. RewritesJson (further_json_rewritten kind) input.now (string_bytes text)) }
-    ensures err { IfErr result (IsJsonRefusal (further_json_rewritten kind) input.now) }
+        (λ text. RewritesJson (client_rewritten kind) input.now (string_bytes text)) }
+    ensures err { IfErr result (IsJsonRefusal (client_rewritten kind) input.now) }
 {
     match kind {
-        FurtherJsonKind::UnknownCredential => {
+        ClientKind::UnknownCredential => {
             rewrite_record::<UnknownCredentialOptions>(alloc, input)
         }
-        FurtherJsonKind::AcceptedCredentials => {
+        ClientKind::AcceptedCredentials => {
             rewrite_record::<AllAcceptedCredentialsOptions>(alloc, input)
         }
-        FurtherJsonKind::UserDetails => rewrite_record::<CurrentUserDetailsOptions>(alloc, input),
-        FurtherJsonKind::ClientInputs => rewrite_record::<ClientExtensionInputs>(alloc, input),
-        FurtherJsonKind::ClientOutputs => rewrite_record::<ClientExtensionOutputs>(alloc, input),
-        FurtherJsonKind::MediatedCreation => rewrite_record::<
+        ClientKind::UserDetails => rewrite_record::<CurrentUserDetailsOptions>(alloc, input),
+        ClientKind::ClientInputs => rewrite_record::<ClientExtensionInputs>(alloc, input),
+        ClientKind::ClientOutputs => rewrite_record::<ClientExtensionOutputs>(alloc, input),
+        ClientKind::MediatedCreation => rewrite_record::<
             MediatedOptions<PublicKeyCredentialCreationOptions>,
         >(alloc, input),
-        FurtherJsonKind::MediatedRequest => rewrite_record::<
+        ClientKind::MediatedRequest => rewrite_record::<
             MediatedOptions<PublicKeyCredentialRequestOptions>,
         >(alloc, input),
-        FurtherJsonKind::TopOrigin => rewrite_client_data::<TopOrigin>(alloc, input),
-        FurtherJsonKind::Payment => rewrite_client_data::<PaymentData>(alloc, input),
-        FurtherJsonKind::Capabilities => rewrite_capabilities(alloc, input),
+        ClientKind::TopOrigin => rewrite_client_data::<TopOrigin>(alloc, input),
+        ClientKind::Payment => rewrite_client_data::<PaymentData>(alloc, input),
+        ClientKind::Capabilities => rewrite_capabilities(alloc, input),
     }
 }

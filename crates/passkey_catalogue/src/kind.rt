@@ -3,8 +3,8 @@ ghost use Rattle.std.specs.Prelude.{◌≡◌};
 ghost use Rattle.passkey_catalogue.specs.Catalogue.{is_json, kind_at, kind_named, kind_numbered, name_of};
 ghost use Rattle.passkey_catalogue.specs.Numbers.{value_from};
 
-use crate::further_kind::FurtherKind;
-use crate::json_kind::FurtherJsonKind;
+use crate::client_kind::ClientKind;
+use crate::ctap_kind::CtapKind;
 use passkey_run::{BytesKind, JsonKind};
 use passkey_webauthn::EnumNames;
 
@@ -15,10 +15,10 @@ pub enum Kind {
     Bytes(BytesKind),
     /// A JSON text of a kind that `passkey_show` has.
     Json(JsonKind),
-    /// Bytes of another kind.
-    Further(FurtherKind),
-    /// A JSON text of another kind.
-    FurtherJson(FurtherJsonKind),
+    /// Other bytes, which CTAP2 has between a platform and an authenticator.
+    Ctap(CtapKind),
+    /// Another JSON text, which a client takes or gives.
+    Client(ClientKind),
 }
 
 /// Returns the value whose place in its table, from `first` on, is the number; `None` if none has
@@ -46,11 +46,11 @@ impl Kind {
         if let Some(kind) = JsonKind::from_name(name) {
             return Some(Kind::Json(kind));
         }
-        if let Some(kind) = FurtherKind::from_name(name) {
-            return Some(Kind::Further(kind));
+        if let Some(kind) = CtapKind::from_name(name) {
+            return Some(Kind::Ctap(kind));
         }
-        match FurtherJsonKind::from_name(name) {
-            Some(kind) => Some(Kind::FurtherJson(kind)),
+        match ClientKind::from_name(name) {
+            Some(kind) => Some(Kind::Client(kind)),
             None => None,
         }
     }
@@ -62,8 +62,8 @@ impl Kind {
         match self {
             Kind::Bytes(kind) => kind.name(),
             Kind::Json(kind) => kind.name(),
-            Kind::Further(kind) => kind.name(),
-            Kind::FurtherJson(kind) => kind.name(),
+            Kind::Ctap(kind) => kind.name(),
+            Kind::Client(kind) => kind.name(),
         }
     }
 
@@ -79,8 +79,8 @@ impl Kind {
         if let Some(kind) = placed::<JsonKind>(number, 9) {
             return Some(Kind::Json(kind));
         }
-        match placed::<FurtherKind>(number, 14) {
-            Some(kind) => Some(Kind::Further(kind)),
+        match placed::<CtapKind>(number, 14) {
+            Some(kind) => Some(Kind::Ctap(kind)),
             None => None,
         }
     }
@@ -93,8 +93,8 @@ impl Kind {
         if let Some(kind) = Kind::from_number(place) {
             return Some(kind);
         }
-        match placed::<FurtherJsonKind>(place, 200) {
-            Some(kind) => Some(Kind::FurtherJson(kind)),
+        match placed::<ClientKind>(place, 200) {
+            Some(kind) => Some(Kind::Client(kind)),
             None => None,
         }
     }
@@ -104,8 +104,8 @@ impl Kind {
         ensures { result ≡ is_json self }
     {
         match self {
-            Kind::Bytes(_) | Kind::Further(_) => false,
-            Kind::Json(_) | Kind::FurtherJson(_) => true,
+            Kind::Bytes(_) | Kind::Ctap(_) => false,
+            Kind::Json(_) | Kind::Client(_) => true,
         }
     }
 }

@@ -6,10 +6,10 @@
 //! capabilities (section 5), and payments.
 #![tactic(auto)]
 
+mod client_kind;
+mod ctap_kind;
 mod form;
-mod further_kind;
 mod json;
-mod json_kind;
 mod key;
 mod kind;
 mod rewriting;
@@ -18,10 +18,10 @@ mod statement;
 mod structure;
 mod visiting;
 
+pub use client_kind::ClientKind;
+pub use ctap_kind::CtapKind;
 pub use form::Form;
-pub use further_kind::FurtherKind;
-pub use json::rewrite_further_json;
-pub use json_kind::FurtherJsonKind;
+pub use json::rewrite_client_json;
 pub use kind::Kind;
 pub use rewriting::{encode, encode_form};
 pub use visiting::visit;

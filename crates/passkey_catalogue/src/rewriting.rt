@@ -1,15 +1,15 @@
 //! Inputs of any kind, decoded and encoded again.
 ghost use Rattle.std.specs.Prelude.{◌≡◌, IfOk, IfErr, length, string_bytes};
 ghost use Rattle.passkey_catalogue.specs.Catalogue.{definition};
-ghost use Rattle.passkey_catalogue.specs.JsonKinds.{further_json_rewritten};
+ghost use Rattle.passkey_catalogue.specs.ClientKinds.{client_rewritten};
 ghost use Rattle.passkey_catalogue.specs.Rewriting.{Encodes, EncodesForm, IsFormLength, IsRefusal, RefusesForm};
 ghost use Rattle.passkey_explain_data.specs.DataLength.{IsDataLength};
 ghost use Rattle.passkey_run.specs.RewritesJson.{IsJsonRefusal, RewritesJson, json_rewritten};
 ghost use Rattle.passkey_run.specs.Rewriting.{IsDataRefusal, RewritesData};
 
+use crate::client_kind::ClientKind;
 use crate::form::Form;
-use crate::json::rewrite_further_json;
-use crate::json_kind::FurtherJsonKind;
+use crate::json::rewrite_client_json;
 use crate::key::rewrite_key;
 use crate::kind::Kind;
 use crate::statement::rewrite_statement;
@@ -40,16 +40,16 @@ fn encode_json(alloc: Global, kind: JsonKind, input: &[u8]) -> Result<(Vec<u8>, 
     Ok((text.into_bytes(), input.len()))
 }
 
-fn encode_further_json(
+fn encode_client_json(
     alloc: Global,
-    kind: FurtherJsonKind,
+    kind: ClientKind,
     input: &[u8],
 ) -> Result<(Vec<u8>, usize), RunFault>
-    ensures ok { IfOk result (λ made. RewritesJson (further_json_rewritten kind) input.now made.0.items
+    ensures ok { IfOk result (λ made. RewritesJson (client_rewritten kind) input.now made.0.items
         × (made.1 ≡ length input.now)) }
-    ensures err { IfErr result (IsJsonRefusal (further_json_rewritten kind) input.now) }
+    ensures err { IfErr result (IsJsonRefusal (client_rewritten kind) input.now) }
 {
-    let text = rewrite_further_json(alloc, kind, input)?;
+    let text = rewrite_client_json(alloc, kind, input)?;
     Ok((text.into_bytes(), input.len()))
 }
 
@@ -65,7 +65,7 @@ pub fn encode_form(alloc: Global, form: Form, input: &[u8]) -> Result<(Vec<u8>, 
         Form::CertInfo => rewrite_cert_info(alloc, input),
         Form::PubArea => rewrite_pub_area(alloc, input),
         Form::Json(kind) => encode_json(alloc, kind, input),
-        Form::FurtherJson(kind) => encode_further_json(alloc, kind, input),
+        Form::Client(kind) => encode_client_json(alloc, kind, input),
     }
 }
 

@@ -2,8 +2,8 @@
 ghost use Rattle.std.specs.Prelude.{◌≡◌};
 ghost use Rattle.passkey_catalogue.specs.Sources.{bytes_source, json_source, source_of};
 
-use crate::further_kind::further_source;
-use crate::json_kind::further_json_source;
+use crate::client_kind::client_source;
+use crate::ctap_kind::ctap_source;
 use crate::kind::Kind;
 use passkey_run::{BytesKind, JsonKind};
 
@@ -39,8 +39,8 @@ impl Kind {
         match self {
             Kind::Bytes(kind) => bytes_source(kind),
             Kind::Json(kind) => json_source(kind),
-            Kind::Further(kind) => further_source(kind),
-            Kind::FurtherJson(kind) => further_json_source(kind),
+            Kind::Ctap(kind) => ctap_source(kind),
+            Kind::Client(kind) => client_source(kind),
         }
     }
 }

@@ -1,8 +1,8 @@
 //! The dispatch over all kinds.
-ghost use Rattle.passkey_catalogue.specs.Catalogue.{definition, further_definition};
+ghost use Rattle.passkey_catalogue.specs.Catalogue.{definition, ctap_definition};
 
+use crate::ctap_kind::CtapKind;
 use crate::form::Form;
-use crate::further_kind::FurtherKind;
 use crate::kind::Kind;
 use passkey_attestation::AttestationFormat;
 use passkey_commands::{
@@ -19,64 +19,64 @@ pub fn visit<V: Visitor<Other = Form>>(kind: Kind, visitor: V) -> V::Output
     match kind {
         Kind::Bytes(kind) => visit_bytes(kind, visitor),
         Kind::Json(kind) => visitor.visit_other(Form::Json(kind)),
-        Kind::Further(kind) => visit_further(kind, visitor),
-        Kind::FurtherJson(kind) => visitor.visit_other(Form::FurtherJson(kind)),
+        Kind::Ctap(kind) => visit_ctap_kind(kind, visitor),
+        Kind::Client(kind) => visitor.visit_other(Form::Client(kind)),
     }
 }
 
-fn visit_further<V: Visitor<Other = Form>>(kind: FurtherKind, visitor: V) -> V::Output
-    ensures { V.Gives visitor (further_definition kind) result }
+fn visit_ctap_kind<V: Visitor<Other = Form>>(kind: CtapKind, visitor: V) -> V::Output
+    ensures { V.Gives visitor (ctap_definition kind) result }
 {
     match kind {
-        FurtherKind::PinRequest => visitor.visit_message::<pin::Request>(),
-        FurtherKind::PinResponse => visitor.visit_message::<pin::Response>(),
-        FurtherKind::BioRequest => visitor.visit_message::<bio::Request>(),
-        FurtherKind::BioResponse => visitor.visit_message::<bio::Response>(),
-        FurtherKind::CredentialRequest => visitor.visit_message::<credentials::Request>(),
-        FurtherKind::CredentialResponse => visitor.visit_message::<credentials::Response>(),
-        FurtherKind::BlobsRequest => visitor.visit_message::<blobs::Request>(),
-        FurtherKind::BlobsResponse => visitor.visit_message::<blobs::Response>(),
-        FurtherKind::BlobsEntry => visitor.visit_message::<blobs::LargeBlob>(),
-        FurtherKind::ConfigRequest => visitor.visit_message::<config::Request>(),
-        FurtherKind::ConfigMinPinLength => {
+        CtapKind::PinRequest => visitor.visit_message::<pin::Request>(),
+        CtapKind::PinResponse => visitor.visit_message::<pin::Response>(),
+        CtapKind::BioRequest => visitor.visit_message::<bio::Request>(),
+        CtapKind::BioResponse => visitor.visit_message::<bio::Response>(),
+        CtapKind::CredentialRequest => visitor.visit_message::<credentials::Request>(),
+        CtapKind::CredentialResponse => visitor.visit_message::<credentials::Response>(),
+        CtapKind::BlobsRequest => visitor.visit_message::<blobs::Request>(),
+        CtapKind::BlobsResponse => visitor.visit_message::<blobs::Response>(),
+        CtapKind::BlobsEntry => visitor.visit_message::<blobs::LargeBlob>(),
+        CtapKind::ConfigRequest => visitor.visit_message::<config::Request>(),
+        CtapKind::ConfigMinPinLength => {
             visitor.visit_message::<config::MinPinLengthParameters>()
         }
-        FurtherKind::ConfigVendor => visitor.visit_message::<config::VendorParameters>(),
-        FurtherKind::Key => visitor.visit_other(Form::Key),
-        FurtherKind::Info23 => visitor.visit_message::<passkey_registered::get_info::Response>(),
-        FurtherKind::MakeInputs => visitor.visit_message::<make_credential::ExtensionInputs>(),
-        FurtherKind::MakeOutputs => {
+        CtapKind::ConfigVendor => visitor.visit_message::<config::VendorParameters>(),
+        CtapKind::Key => visitor.visit_other(Form::Key),
+        CtapKind::Info23 => visitor.visit_message::<passkey_registered::get_info::Response>(),
+        CtapKind::MakeInputs => visitor.visit_message::<make_credential::ExtensionInputs>(),
+        CtapKind::MakeOutputs => {
             visitor.visit_message::<make_credential::SignedExtensionOutputs>()
         }
-        FurtherKind::MakeUnsigned => {
+        CtapKind::MakeUnsigned => {
             visitor.visit_message::<make_credential::UnsignedExtensionOutputs>()
         }
-        FurtherKind::GetInputs => visitor.visit_message::<get_assertion::ExtensionInputs>(),
-        FurtherKind::GetOutputs => visitor.visit_message::<get_assertion::SignedExtensionOutputs>(),
-        FurtherKind::GetUnsigned => {
+        CtapKind::GetInputs => visitor.visit_message::<get_assertion::ExtensionInputs>(),
+        CtapKind::GetOutputs => visitor.visit_message::<get_assertion::SignedExtensionOutputs>(),
+        CtapKind::GetUnsigned => {
             visitor.visit_message::<get_assertion::UnsignedExtensionOutputs>()
         }
-        FurtherKind::PackedStatement => {
+        CtapKind::PackedStatement => {
             visitor.visit_other(Form::Statement(AttestationFormat::Packed))
         }
-        FurtherKind::TpmStatement => visitor.visit_other(Form::Statement(AttestationFormat::Tpm)),
-        FurtherKind::AndroidKeyStatement => {
+        CtapKind::TpmStatement => visitor.visit_other(Form::Statement(AttestationFormat::Tpm)),
+        CtapKind::AndroidKeyStatement => {
             visitor.visit_other(Form::Statement(AttestationFormat::AndroidKey))
         }
-        FurtherKind::SafetyNetStatement => {
+        CtapKind::SafetyNetStatement => {
             visitor.visit_other(Form::Statement(AttestationFormat::AndroidSafetyNet))
         }
-        FurtherKind::FidoU2fStatement => {
+        CtapKind::FidoU2fStatement => {
             visitor.visit_other(Form::Statement(AttestationFormat::FidoU2f))
         }
-        FurtherKind::NoneStatement => visitor.visit_other(Form::Statement(AttestationFormat::None)),
-        FurtherKind::AppleStatement => {
+        CtapKind::NoneStatement => visitor.visit_other(Form::Statement(AttestationFormat::None)),
+        CtapKind::AppleStatement => {
             visitor.visit_other(Form::Statement(AttestationFormat::Apple))
         }
-        FurtherKind::CompoundStatement => {
+        CtapKind::CompoundStatement => {
             visitor.visit_other(Form::Statement(AttestationFormat::Compound))
         }
-        FurtherKind::CertInfo => visitor.visit_other(Form::CertInfo),
-        FurtherKind::PubArea => visitor.visit_other(Form::PubArea),
+        CtapKind::CertInfo => visitor.visit_other(Form::CertInfo),
+        CtapKind::PubArea => visitor.visit_other(Form::PubArea),
     }
 }

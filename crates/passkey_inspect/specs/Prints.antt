@@ -11,7 +11,7 @@ use Rattle.passkey_explain.specs.Described.{Described}
 use Rattle.passkey_report.specs.Json.{json_text}
 use Rattle.passkey_inspect_input.specs.Input.{bytes_as}
 use Rattle.passkey_inspect_input.specs.declared.Form.{Form}
-use Rattle.passkey_catalogue.specs.JsonKinds.{further_json_rewritten}
+use Rattle.passkey_catalogue.specs.ClientKinds.{client_rewritten}
 use Rattle.passkey_run.specs.RewritesJson.{RewritesJson, json_rewritten}
 use Rattle.passkey_inspect.specs.declared.options.Output.{Output}
 use Rattle.passkey_inspect.specs.declared.options.Output.TheVariants.{Report, Json as JsonText, Diagnosis, Bytes as BytesText, Encoding}
@@ -72,7 +72,7 @@ pub record PrintsBytes (output : Output) (bytes line : List ℕ) : Type 0 where
 -- The JSON text of the record that the input is decoded to as the kind, if it is one of JSON.
 abbrev pub RewritesText : Kind → List ℕ → List ℕ → Type 0
 RewritesText (kind.Json k) = RewritesJson (json_rewritten k)
-RewritesText (kind.FurtherJson k) = RewritesJson (further_json_rewritten k)
+RewritesText (kind.Client k) = RewritesJson (client_rewritten k)
 RewritesText _ = λ input text. ⊥
 
 -- The text with each character escaped that a terminal could take as a command.

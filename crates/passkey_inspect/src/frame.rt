@@ -3,7 +3,7 @@ ghost use Rattle.passkey_inspect.specs.Prints.{IsMessageIn};
 
 use crate::kind::InspectKind;
 use crate::status_name::status_name;
-use passkey_catalogue::FurtherKind;
+use passkey_catalogue::CtapKind;
 use passkey_commands::framing::{Command, request_of};
 use passkey_memory::OutOfMemory;
 use passkey_run::BytesKind;
@@ -58,15 +58,15 @@ pub fn request_kind(command: Command) -> Option<InspectKind> {
     match command {
         Command::MakeCredential => Some(InspectKind::Bytes(BytesKind::MakeRequest)),
         Command::GetAssertion => Some(InspectKind::Bytes(BytesKind::GetRequest)),
-        Command::ClientPin => Some(InspectKind::Further(FurtherKind::PinRequest)),
+        Command::ClientPin => Some(InspectKind::Ctap(CtapKind::PinRequest)),
         Command::BioEnrollment | Command::PrototypeBioEnrollment => {
-            Some(InspectKind::Further(FurtherKind::BioRequest))
+            Some(InspectKind::Ctap(CtapKind::BioRequest))
         }
         Command::CredentialManagement | Command::PrototypeCredentialManagement => {
-            Some(InspectKind::Further(FurtherKind::CredentialRequest))
+            Some(InspectKind::Ctap(CtapKind::CredentialRequest))
         }
-        Command::LargeBlobs => Some(InspectKind::Further(FurtherKind::BlobsRequest)),
-        Command::Config => Some(InspectKind::Further(FurtherKind::ConfigRequest)),
+        Command::LargeBlobs => Some(InspectKind::Ctap(CtapKind::BlobsRequest)),
+        Command::Config => Some(InspectKind::Ctap(CtapKind::ConfigRequest)),
         _ => None,
     }
 }

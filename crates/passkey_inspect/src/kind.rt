@@ -1,6 +1,6 @@
 //! The kinds that are found where none is named.
 
-use passkey_catalogue::FurtherKind;
+use passkey_catalogue::CtapKind;
 pub use passkey_catalogue::Kind as InspectKind;
 use passkey_run::{BytesKind, JsonKind};
 
@@ -15,20 +15,20 @@ pub const FOUND_KINDS: [InspectKind; 21] = [
     InspectKind::Bytes(BytesKind::MakeRequest),
     InspectKind::Bytes(BytesKind::GetResponse),
     InspectKind::Bytes(BytesKind::GetRequest),
-    InspectKind::Further(FurtherKind::Key),
+    InspectKind::Ctap(CtapKind::Key),
     InspectKind::Bytes(BytesKind::HmacInput),
-    InspectKind::Further(FurtherKind::BlobsEntry),
-    InspectKind::Further(FurtherKind::CredentialRequest),
-    InspectKind::Further(FurtherKind::PinRequest),
-    InspectKind::Further(FurtherKind::ConfigRequest),
-    InspectKind::Further(FurtherKind::ConfigVendor),
-    InspectKind::Further(FurtherKind::BlobsRequest),
-    InspectKind::Further(FurtherKind::BioRequest),
-    InspectKind::Further(FurtherKind::CredentialResponse),
-    InspectKind::Further(FurtherKind::BioResponse),
-    InspectKind::Further(FurtherKind::PinResponse),
-    InspectKind::Further(FurtherKind::BlobsResponse),
-    InspectKind::Further(FurtherKind::ConfigMinPinLength),
+    InspectKind::Ctap(CtapKind::BlobsEntry),
+    InspectKind::Ctap(CtapKind::CredentialRequest),
+    InspectKind::Ctap(CtapKind::PinRequest),
+    InspectKind::Ctap(CtapKind::ConfigRequest),
+    InspectKind::Ctap(CtapKind::ConfigVendor),
+    InspectKind::Ctap(CtapKind::BlobsRequest),
+    InspectKind::Ctap(CtapKind::BioRequest),
+    InspectKind::Ctap(CtapKind::CredentialResponse),
+    InspectKind::Ctap(CtapKind::BioResponse),
+    InspectKind::Ctap(CtapKind::PinResponse),
+    InspectKind::Ctap(CtapKind::BlobsResponse),
+    InspectKind::Ctap(CtapKind::ConfigMinPinLength),
     InspectKind::Bytes(BytesKind::Auth),
     CBOR,
 ];
@@ -48,7 +48,7 @@ pub fn is_data_item(kind: InspectKind) -> bool {
     !matches!(
         kind,
         InspectKind::Bytes(BytesKind::Auth)
-            | InspectKind::Further(FurtherKind::CertInfo | FurtherKind::PubArea)
+            | InspectKind::Ctap(CtapKind::CertInfo | CtapKind::PubArea)
     )
 }
 

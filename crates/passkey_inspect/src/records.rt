@@ -8,7 +8,7 @@ use crate::inspect::{push_names, push_report, with_line_feed};
 use crate::kind::{FOUND_JSON_KINDS, InspectKind, name_of};
 use crate::options::{Options, Output};
 use passkey_bytes::{Bytes, BytesFault};
-use passkey_catalogue::rewrite_further_json;
+use passkey_catalogue::rewrite_client_json;
 use passkey_cbor_text::diagnose::escape_controls;
 use passkey_explain_json::{JsonExplanation, explain_client_data, explain_json};
 use passkey_memory::OutOfMemory;
@@ -179,8 +179,8 @@ fn rewrite(alloc: Global, kind: InspectKind, input: &[u8]) -> Result<String, Run
 {
     match kind {
         InspectKind::Json(kind) => rewrite_json(alloc, kind, input),
-        InspectKind::FurtherJson(kind) => rewrite_further_json(alloc, kind, input),
-        InspectKind::Bytes(_) | InspectKind::Further(_) => Err(RunFault::BadHex),
+        InspectKind::Client(kind) => rewrite_client_json(alloc, kind, input),
+        InspectKind::Bytes(_) | InspectKind::Ctap(_) => Err(RunFault::BadHex),
     }
 }
 

@@ -4,7 +4,7 @@
 use crate::kind::InspectKind;
 use crate::refusal::{content_at, moved_extent, statement_line};
 use passkey_attestation::AttestationFormat;
-use passkey_catalogue::FurtherKind;
+use passkey_catalogue::CtapKind;
 use passkey_cbor::{CborError, Value};
 use passkey_explain::{Extent, Step, locate};
 use passkey_explain_data::{
@@ -175,7 +175,7 @@ pub fn undecoded_text(
     bytes: &[u8],
 ) -> Result<String, OutOfMemory> {
     let is_response = kind == InspectKind::Bytes(BytesKind::MakeResponse);
-    if !is_response && kind != InspectKind::Further(FurtherKind::TpmStatement) {
+    if !is_response && kind != InspectKind::Ctap(CtapKind::TpmStatement) {
         return Ok(String::new(alloc));
     }
     let value = match Value::from_slice(alloc, bytes) {

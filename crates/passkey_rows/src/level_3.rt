@@ -1,6 +1,6 @@
 //! What WebAuthn Level 3 has over JSON beyond the records of `passkey_show`.
 use crate::again_json::{client_data_copied, encoding, parsed};
-use passkey_catalogue::{FurtherJsonKind, rewrite_further_json};
+use passkey_catalogue::{ClientKind, rewrite_client_json};
 use passkey_run::RunFault;
 use passkey_types::json::{FromJson, JsonRefusal};
 use passkey_types::webauthn::client::{ClientCapabilities, PaymentData, TopOrigin};
@@ -26,10 +26,10 @@ fn capabilities(alloc: Global, text: &str) -> Result<String, RunFault> {
 /// Returns the output of a row of such a kind: client data are decoded, copied and encoded, other
 /// records are decoded and encoded. Returns `None` if it isn't a row of such a kind.
 pub fn level_3_row(alloc: Global, name: &str, input: &str) -> Option<Result<String, RunFault>> {
-    Some(match FurtherJsonKind::from_name(name)? {
-        FurtherJsonKind::TopOrigin => client_data_copied::<TopOrigin>(alloc, input),
-        FurtherJsonKind::Payment => client_data_copied::<PaymentData>(alloc, input),
-        FurtherJsonKind::Capabilities => capabilities(alloc, input),
-        kind => rewrite_further_json(alloc, kind, input.as_bytes()),
+    Some(match ClientKind::from_name(name)? {
+        ClientKind::TopOrigin => client_data_copied::<TopOrigin>(alloc, input),
+        ClientKind::Payment => client_data_copied::<PaymentData>(alloc, input),
+        ClientKind::Capabilities => capabilities(alloc, input),
+        kind => rewrite_client_json(alloc, kind, input.as_bytes()),
     })
 }

@@ -18,13 +18,13 @@ mod ceremonies;
 mod copied;
 mod decoding;
 mod extensions;
-mod further;
 mod heads;
 mod hexadecimal;
 mod lenient;
 mod lenient_json;
 mod level_3;
 mod making;
+mod named;
 mod notation;
 mod parts;
 mod platform;
@@ -35,7 +35,7 @@ mod well_known;
 
 use crate::again::answer;
 use crate::alike::are_decoded_alike;
-use crate::further::further_row;
+use crate::named::named_row;
 use crate::tries::Tries;
 use anyhow::Result;
 use passkey_run::{Kind, RunFault, rewrite};
@@ -46,7 +46,7 @@ fn output_of(alloc: Global, tries: &mut Tries, row: &str) -> Result<String, RunF
     let (name, input) = row.split_once(' ').unwrap_or((row, ""));
     match Kind::from_name(name) {
         Some(kind) => rewrite(alloc, kind, input.as_bytes()),
-        None => match further_row(alloc, tries, name, input) {
+        None => match named_row(alloc, tries, name, input) {
             Some(output) => output,
             None => answer(alloc, tries, name, input),
         },

@@ -6,7 +6,7 @@ use crate::decoding::{Source, decode_as};
 use crate::heads::{Counts, heads};
 use crate::hexadecimal::{decode, encode};
 use crate::tries::Tries;
-use passkey_catalogue::{FurtherKind, Kind};
+use passkey_catalogue::{CtapKind, Kind};
 use passkey_run::{BytesKind, RunFault};
 use passkey_types::ctap2::extensions::HmacGetSecretInput;
 use passkey_types::ctap2::registered::extensions::{
@@ -72,42 +72,38 @@ fn shown_in_parts(
 fn other_in_parts(
     alloc: Global,
     tries: &mut Tries,
-    kind: FurtherKind,
+    kind: CtapKind,
     by: bool,
     bytes: &[u8],
 ) -> Result<Vec<u8>, RunFault> {
     match kind {
-        FurtherKind::PinRequest => in_parts::<client_pin::Request>(alloc, tries, by, bytes),
-        FurtherKind::PinResponse => in_parts::<client_pin::Response>(alloc, tries, by, bytes),
-        FurtherKind::BioRequest => in_parts::<bio_enrollment::Request>(alloc, tries, by, bytes),
-        FurtherKind::BioResponse => in_parts::<bio_enrollment::Response>(alloc, tries, by, bytes),
-        FurtherKind::CredentialRequest => in_parts::<credential_management::Request>(
+        CtapKind::PinRequest => in_parts::<client_pin::Request>(alloc, tries, by, bytes),
+        CtapKind::PinResponse => in_parts::<client_pin::Response>(alloc, tries, by, bytes),
+        CtapKind::BioRequest => in_parts::<bio_enrollment::Request>(alloc, tries, by, bytes),
+        CtapKind::BioResponse => in_parts::<bio_enrollment::Response>(alloc, tries, by, bytes),
+        CtapKind::CredentialRequest => in_parts::<credential_management::Request>(
             alloc, tries, by, bytes,
         ),
-        FurtherKind::CredentialResponse => in_parts::<credential_management::Response>(
+        CtapKind::CredentialResponse => in_parts::<credential_management::Response>(
             alloc, tries, by, bytes,
         ),
-        FurtherKind::BlobsRequest => in_parts::<large_blobs::Request>(alloc, tries, by, bytes),
-        FurtherKind::BlobsResponse => in_parts::<large_blobs::Response>(alloc, tries, by, bytes),
-        FurtherKind::BlobsEntry => in_parts::<large_blobs::LargeBlob>(alloc, tries, by, bytes),
-        FurtherKind::ConfigRequest => in_parts::<config::Request>(alloc, tries, by, bytes),
-        FurtherKind::ConfigMinPinLength => in_parts::<config::MinPinLengthParameters>(
+        CtapKind::BlobsRequest => in_parts::<large_blobs::Request>(alloc, tries, by, bytes),
+        CtapKind::BlobsResponse => in_parts::<large_blobs::Response>(alloc, tries, by, bytes),
+        CtapKind::BlobsEntry => in_parts::<large_blobs::LargeBlob>(alloc, tries, by, bytes),
+        CtapKind::ConfigRequest => in_parts::<config::Request>(alloc, tries, by, bytes),
+        CtapKind::ConfigMinPinLength => in_parts::<config::MinPinLengthParameters>(
             alloc, tries, by, bytes,
         ),
-        FurtherKind::ConfigVendor => in_parts::<config::VendorParameters>(alloc, tries, by, bytes),
-        FurtherKind::Info23 => in_parts::<registered::get_info::Response>(alloc, tries, by, bytes),
-        FurtherKind::MakeInputs => in_parts::<made::ExtensionInputs>(alloc, tries, by, bytes),
-        FurtherKind::MakeOutputs => in_parts::<made::SignedExtensionOutputs>(
+        CtapKind::ConfigVendor => in_parts::<config::VendorParameters>(alloc, tries, by, bytes),
+        CtapKind::Info23 => in_parts::<registered::get_info::Response>(alloc, tries, by, bytes),
+        CtapKind::MakeInputs => in_parts::<made::ExtensionInputs>(alloc, tries, by, bytes),
+        CtapKind::MakeOutputs => in_parts::<made::SignedExtensionOutputs>(alloc, tries, by, bytes),
+        CtapKind::MakeUnsigned => in_parts::<made::UnsignedExtensionOutputs>(
             alloc, tries, by, bytes,
         ),
-        FurtherKind::MakeUnsigned => in_parts::<made::UnsignedExtensionOutputs>(
-            alloc, tries, by, bytes,
-        ),
-        FurtherKind::GetInputs => in_parts::<used::ExtensionInputs>(alloc, tries, by, bytes),
-        FurtherKind::GetOutputs => in_parts::<used::SignedExtensionOutputs>(
-            alloc, tries, by, bytes,
-        ),
-        FurtherKind::GetUnsigned => in_parts::<used::UnsignedExtensionOutputs>(
+        CtapKind::GetInputs => in_parts::<used::ExtensionInputs>(alloc, tries, by, bytes),
+        CtapKind::GetOutputs => in_parts::<used::SignedExtensionOutputs>(alloc, tries, by, bytes),
+        CtapKind::GetUnsigned => in_parts::<used::UnsignedExtensionOutputs>(
             alloc, tries, by, bytes,
         ),
         _ => Err(RunFault::UnknownKind),
@@ -150,7 +146,7 @@ pub fn message_row(
         (Way::Once, kind) => once(alloc, tries, Source::Bytes, kind, &bytes)?,
         (Way::Body, kind) => once(alloc, tries, Source::Body, kind, &bytes)?,
         (_, Kind::Bytes(kind)) => shown_in_parts(alloc, tries, kind, by, &bytes)?,
-        (_, Kind::Further(kind)) => other_in_parts(alloc, tries, kind, by, &bytes)?,
+        (_, Kind::Ctap(kind)) => other_in_parts(alloc, tries, kind, by, &bytes)?,
         _ => return Err(RunFault::UnknownKind),
     };
     encode(alloc, &encoding)

@@ -77,7 +77,7 @@ fn way_of(name: &str) -> (Way, &str) {
 }
 
 /// Returns the output of a row of such a kind. Returns `None` if it isn't a row of such a kind.
-pub fn further_row(
+pub fn named_row(
     alloc: Global,
     tries: &mut Tries,
     name: &str,

@@ -1,4 +1,4 @@
-use Rattle.passkey_catalogue.proofs.json.rewrite_further_json.Goals as goal
+use Rattle.passkey_catalogue.proofs.json.rewrite_client_json.Goals as goal
 
 pub returns-in-MediatedCreation-clause-err : goal.returns-in-MediatedCreation-clause-err
 returns-in-MediatedCreation-clause-err c =

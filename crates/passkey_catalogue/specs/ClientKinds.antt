@@ -12,17 +12,17 @@ use Rattle.passkey_json.specs.Kind.{text}
 use Rattle.passkey_json.specs.Members.{◌>>=◌, if_present, member}
 use Rattle.passkey_json.specs.declared.bytes_form.BytesForm.TheVariants.{Base64Url}
 use Rattle.passkey_webauthn_json.specs.options.Options.{creation_options, request_options}
-use Rattle.passkey_catalogue.specs.contracts.json_kind.FurtherJsonKind.{the_type}
-use Rattle.passkey_catalogue.specs.declared.json_kind.FurtherJsonKind.{FurtherJsonKind}
-use Rattle.passkey_catalogue.specs.declared.json_kind.FurtherJsonKind.TheVariants as kind
+use Rattle.passkey_catalogue.specs.contracts.client_kind.ClientKind.{the_type}
+use Rattle.passkey_catalogue.specs.declared.client_kind.ClientKind.{ClientKind}
+use Rattle.passkey_catalogue.specs.declared.client_kind.ClientKind.TheVariants as kind
 use Rattle.passkey_run.specs.RewritesJson.{client_data_rewritten, table_rewritten}
 use Rattle.passkey_client.specs.Signals.{all_accepted_credentials, current_user_details, unknown_credential}
 use Rattle.passkey_webauthn.specs.Names.{Names, own_name, value_in}
 use Rattle.serde_json.specs.Data.{Data, object}
 use Rattle.serde_json.specs.Written.{compact_text}
 
-abbrev pub further_json_kinds : Names FurtherJsonKind
-further_json_kinds = (codes "signal-unknown", kind.UnknownCredential)
+abbrev pub client_kinds : Names ClientKind
+client_kinds = (codes "signal-unknown", kind.UnknownCredential)
     ∷ (codes "signal-accepted", kind.AcceptedCredentials)
     ∷ (codes "signal-details", kind.UserDetails)
     ∷ (codes "client-inputs", kind.ClientInputs)
@@ -34,23 +34,23 @@ further_json_kinds = (codes "signal-unknown", kind.UnknownCredential)
     ∷ (codes "capabilities", kind.Capabilities)
     ∷ []
 
-pub further_json_own : (x : FurtherJsonKind)
-    → value_in further_json_kinds (own_name the_type further_json_kinds x) ≡ Some x
-further_json_own kind.UnknownCredential = refl
-further_json_own _ = refl
+pub client_own : (x : ClientKind)
+    → value_in client_kinds (own_name the_type client_kinds x) ≡ Some x
+client_own kind.UnknownCredential = refl
+client_own _ = refl
 
 -- the standard that defines what inputs of the kind are, and its section
-abbrev pub further_json_source : FurtherJsonKind → List ℕ
-further_json_source kind.UnknownCredential = codes "WebAuthn Level 3, section 5.1.10.2"
-further_json_source kind.AcceptedCredentials = codes "WebAuthn Level 3, section 5.1.10.3"
-further_json_source kind.UserDetails = codes "WebAuthn Level 3, section 5.1.10.4"
-further_json_source kind.ClientInputs = codes "WebAuthn Level 3, section 9.3"
-further_json_source kind.ClientOutputs = codes "WebAuthn Level 3, section 9.4"
-further_json_source kind.MediatedCreation = codes "WebAuthn Level 3, section 5.1.3"
-further_json_source kind.MediatedRequest = codes "WebAuthn Level 3, section 5.1.4"
-further_json_source kind.TopOrigin = codes "WebAuthn Level 3, section 5.8.1"
-further_json_source kind.Payment = codes "Secure Payment Confirmation"
-further_json_source kind.Capabilities = codes "WebAuthn Level 3, section 5.1.7"
+abbrev pub client_source : ClientKind → List ℕ
+client_source kind.UnknownCredential = codes "WebAuthn Level 3, section 5.1.10.2"
+client_source kind.AcceptedCredentials = codes "WebAuthn Level 3, section 5.1.10.3"
+client_source kind.UserDetails = codes "WebAuthn Level 3, section 5.1.10.4"
+client_source kind.ClientInputs = codes "WebAuthn Level 3, section 9.3"
+client_source kind.ClientOutputs = codes "WebAuthn Level 3, section 9.4"
+client_source kind.MediatedCreation = codes "WebAuthn Level 3, section 5.1.3"
+client_source kind.MediatedRequest = codes "WebAuthn Level 3, section 5.1.4"
+client_source kind.TopOrigin = codes "WebAuthn Level 3, section 5.8.1"
+client_source kind.Payment = codes "Secure Payment Confirmation"
+client_source kind.Capabilities = codes "WebAuthn Level 3, section 5.1.7"
 
 -- client capabilities: an object of booleans (WebAuthn Level 3, section 5.1.7)
 abbrev pub capabilities_in : Data → Result (ByteMap Bool) Fault
@@ -61,16 +61,16 @@ abbrev pub capabilities_rewritten : Data → Result (List ℕ) Fault
 capabilities_rewritten d = capabilities_in d >>= λ m. Ok (compact_text ((map_value truth_value).json Base64Url m))
 
 -- the output of each kind for a JSON value
-abbrev pub further_json_rewritten : FurtherJsonKind → Data → Result (List ℕ) Fault
-further_json_rewritten kind.UnknownCredential = table_rewritten unknown_credential
-further_json_rewritten kind.AcceptedCredentials = table_rewritten all_accepted_credentials
-further_json_rewritten kind.UserDetails = table_rewritten current_user_details
-further_json_rewritten kind.ClientInputs = table_rewritten client_extension_inputs
-further_json_rewritten kind.ClientOutputs = table_rewritten client_extension_outputs
-further_json_rewritten kind.MediatedCreation = table_rewritten (mediated_options creation_options)
-further_json_rewritten kind.MediatedRequest = table_rewritten (mediated_options request_options)
-further_json_rewritten kind.TopOrigin =
+abbrev pub client_rewritten : ClientKind → Data → Result (List ℕ) Fault
+client_rewritten kind.UnknownCredential = table_rewritten unknown_credential
+client_rewritten kind.AcceptedCredentials = table_rewritten all_accepted_credentials
+client_rewritten kind.UserDetails = table_rewritten current_user_details
+client_rewritten kind.ClientInputs = table_rewritten client_extension_inputs
+client_rewritten kind.ClientOutputs = table_rewritten client_extension_outputs
+client_rewritten kind.MediatedCreation = table_rewritten (mediated_options creation_options)
+client_rewritten kind.MediatedRequest = table_rewritten (mediated_options request_options)
+client_rewritten kind.TopOrigin =
     client_data_rewritten is_top_origin (λ o. if_present text (member (codes "topOrigin") o)) origin_members
-further_json_rewritten kind.Payment =
+client_rewritten kind.Payment =
     client_data_rewritten is_payment payment_in payment_members
-further_json_rewritten kind.Capabilities = capabilities_rewritten
+client_rewritten kind.Capabilities = capabilities_rewritten

@@ -1,0 +1,142 @@
+//! The kinds of bytes that CTAP2 has, beside those of `passkey_show`.
+ghost use Rattle.std.specs.Prelude.{◌≡◌};
+ghost use Rattle.passkey_catalogue.specs.CtapKinds.{ctap_kinds, ctap_own, ctap_source};
+
+use passkey_webauthn::EnumNames;
+
+/// What bytes of CTAP2 are decoded as, beside `BytesKind`: messages of its other commands, and what is
+/// in messages: extensions, keys and attestation.
+#[derive(Clone, Copy, Debug, PartialEq, Eq)]
+pub enum CtapKind {
+    /// An authenticatorClientPIN request (CTAP 2.1, section 6.5).
+    PinRequest,
+    /// An authenticatorClientPIN response.
+    PinResponse,
+    /// An authenticatorBioEnrollment request (CTAP 2.1, section 6.7).
+    BioRequest,
+    /// An authenticatorBioEnrollment response.
+    BioResponse,
+    /// An authenticatorCredentialManagement request (CTAP 2.1, section 6.8).
+    CredentialRequest,
+    /// An authenticatorCredentialManagement response.
+    CredentialResponse,
+    /// An authenticatorLargeBlobs request (CTAP 2.1, section 6.10).
+    BlobsRequest,
+    /// An authenticatorLargeBlobs response.
+    BlobsResponse,
+    /// An entry of the large-blob array.
+    BlobsEntry,
+    /// An authenticatorConfig request (CTAP 2.1, section 6.11).
+    ConfigRequest,
+    /// Parameters of setMinPINLength.
+    ConfigMinPinLength,
+    /// Parameters of vendorPrototype.
+    ConfigVendor,
+    /// A COSE key (RFC 9052, section 7).
+    Key,
+    /// An authenticatorGetInfo response with the members and names of CTAP 2.3.
+    Info23,
+    /// Extension inputs of an authenticatorMakeCredential request (CTAP 2.1, section 12).
+    MakeInputs,
+    /// Extension outputs of authenticatorMakeCredential in authenticator data.
+    MakeOutputs,
+    /// Unsigned extension outputs of an authenticatorMakeCredential response.
+    MakeUnsigned,
+    /// Extension inputs of an authenticatorGetAssertion request.
+    GetInputs,
+    /// Extension outputs of authenticatorGetAssertion in authenticator data.
+    GetOutputs,
+    /// Unsigned extension outputs of an authenticatorGetAssertion response.
+    GetUnsigned,
+    /// An attestation statement of the format packed (WebAuthn Level 3, section 8.2).
+    PackedStatement,
+    /// An attestation statement of the format tpm (section 8.3).
+    TpmStatement,
+    /// An attestation statement of the format android-key (section 8.4).
+    AndroidKeyStatement,
+    /// An attestation statement of the format android-safetynet (section 8.5).
+    SafetyNetStatement,
+    /// An attestation statement of the format fido-u2f (section 8.6).
+    FidoU2fStatement,
+    /// An attestation statement of the format none (section 8.7).
+    NoneStatement,
+    /// An attestation statement of the format apple (section 8.8).
+    AppleStatement,
+    /// An attestation statement of the format compound (section 8.9).
+    CompoundStatement,
+    /// `certInfo` of a tpm attestation statement (TPM 2.0 Library, Part 2).
+    CertInfo,
+    /// `pubArea` of a tpm attestation statement.
+    PubArea,
+}
+
+impl EnumNames for CtapKind {
+    ghost table = { ctap_kinds };
+
+    ghost name_is_own = { ctap_own };
+
+    fn table() -> &'static [(&'static str, CtapKind)] {
+        &[
+            ("pin-request", CtapKind::PinRequest),
+            ("pin-response", CtapKind::PinResponse),
+            ("bio-request", CtapKind::BioRequest),
+            ("bio-response", CtapKind::BioResponse),
+            ("cm-request", CtapKind::CredentialRequest),
+            ("cm-response", CtapKind::CredentialResponse),
+            ("lb-request", CtapKind::BlobsRequest),
+            ("lb-response", CtapKind::BlobsResponse),
+            ("lb-entry", CtapKind::BlobsEntry),
+            ("cfg-request", CtapKind::ConfigRequest),
+            ("cfg-min-pin-length", CtapKind::ConfigMinPinLength),
+            ("cfg-vendor", CtapKind::ConfigVendor),
+            ("cose-key", CtapKind::Key),
+            ("info-23", CtapKind::Info23),
+            ("mc-inputs", CtapKind::MakeInputs),
+            ("mc-outputs", CtapKind::MakeOutputs),
+            ("mc-unsigned", CtapKind::MakeUnsigned),
+            ("ga-inputs", CtapKind::GetInputs),
+            ("ga-outputs", CtapKind::GetOutputs),
+            ("ga-unsigned", CtapKind::GetUnsigned),
+            ("att-packed", CtapKind::PackedStatement),
+            ("att-tpm", CtapKind::TpmStatement),
+            ("att-android-key", CtapKind::AndroidKeyStatement),
+            ("att-android-safetynet", CtapKind::SafetyNetStatement),
+            ("att-fido-u2f", CtapKind::FidoU2fStatement),
+            ("att-none", CtapKind::NoneStatement),
+            ("att-apple", CtapKind::AppleStatement),
+            ("att-compound", CtapKind::CompoundStatement),
+            ("tpm-cert-info", CtapKind::CertInfo),
+            ("tpm-pub-area", CtapKind::PubArea),
+        ]
+    }
+}
+
+/// The standard that defines what inputs of this kind are, and its section.
+pub(crate) fn ctap_source(kind: CtapKind) -> &'static str
+    ensures { result.now ≡ ctap_source kind }
+{
+    match kind {
+        CtapKind::PinRequest | CtapKind::PinResponse => "CTAP 2.1, section 6.5",
+        CtapKind::BioRequest | CtapKind::BioResponse => "CTAP 2.1, section 6.7",
+        CtapKind::CredentialRequest | CtapKind::CredentialResponse => "CTAP 2.1, section 6.8",
+        CtapKind::BlobsRequest | CtapKind::BlobsResponse => "CTAP 2.1, section 6.10",
+        CtapKind::BlobsEntry => "CTAP 2.1, section 6.10.3",
+        CtapKind::ConfigRequest => "CTAP 2.1, section 6.11",
+        CtapKind::ConfigMinPinLength => "CTAP 2.1, section 6.11.4",
+        CtapKind::ConfigVendor => "CTAP 2.1, section 6.11.3",
+        CtapKind::Key => "RFC 9052, section 7",
+        CtapKind::Info23 => "CTAP 2.3, section 6.4",
+        CtapKind::MakeInputs | CtapKind::MakeUnsigned => "CTAP 2.3, section 6.1",
+        CtapKind::MakeOutputs | CtapKind::GetOutputs => "WebAuthn Level 3, section 6.1",
+        CtapKind::GetInputs | CtapKind::GetUnsigned => "CTAP 2.3, section 6.2",
+        CtapKind::PackedStatement => "WebAuthn Level 3, section 8.2",
+        CtapKind::TpmStatement => "WebAuthn Level 3, section 8.3",
+        CtapKind::AndroidKeyStatement => "WebAuthn Level 3, section 8.4",
+        CtapKind::SafetyNetStatement => "WebAuthn Level 3, section 8.5",
+        CtapKind::FidoU2fStatement => "WebAuthn Level 3, section 8.6",
+        CtapKind::NoneStatement => "WebAuthn Level 3, section 8.7",
+        CtapKind::AppleStatement => "WebAuthn Level 3, section 8.8",
+        CtapKind::CompoundStatement => "WebAuthn Level 3, section 8.9",
+        CtapKind::CertInfo | CtapKind::PubArea => "TPM 2.0 Library, Part 2",
+    }
+}
