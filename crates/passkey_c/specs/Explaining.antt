@@ -244,7 +244,6 @@ Tells (other f) = TellsForm f
 -- JSON texts aren't explained
 abbrev pub IsUnexplainedForm : Form → Type 0
 IsUnexplainedForm (form.Json k) = ⊤
-IsUnexplainedForm (form.Client k) = ⊤
 IsUnexplainedForm _ = ⊥
 
 abbrev pub IsUnexplained : Definition Form → Type 0

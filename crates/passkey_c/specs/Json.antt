@@ -50,15 +50,12 @@ IsKeyJson bytes text read = Begins bytes (λ i len. (read ≡ len) × IsOk (read
 abbrev pub IsFormJson : Form → List ℕ → List ℕ → ℕ → Type 0
 IsFormJson form.Key input text n = IsKeyJson input text n
 IsFormJson (form.Json k) input text n = EncodesForm (form.Json k) input text × IsFormLength (form.Json k) input n
-IsFormJson (form.Client k) input text n =
-    EncodesForm (form.Client k) input text × IsFormLength (form.Client k) input n
 IsFormJson _ input text n = ⊥
 
 -- Why there is none. Attestation statements and the structures of a TPM have no JSON.
 abbrev pub HasNoFormJson : Form → List ℕ → RunFault → Type 0
 HasNoFormJson form.Key input fault = IsKeyRefusal input fault
 HasNoFormJson (form.Json k) input fault = RefusesForm (form.Json k) input fault
-HasNoFormJson (form.Client k) input fault = RefusesForm (form.Client k) input fault
 HasNoFormJson _ input fault = fault ≡ UnknownKind
 
 abbrev pub IsJson : Definition Form → List ℕ → List ℕ → ℕ → Type 0

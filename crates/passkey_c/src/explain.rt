@@ -258,7 +258,7 @@ fn judge_form(alloc: Global, form: Form, input: &[u8]) -> Result<Verdict, OutOfM
         Form::Statement(format) => judge_statement(alloc, format, input),
         Form::CertInfo => judge_structure(alloc, input.len(), explain_cert_info(input)),
         Form::PubArea => judge_structure(alloc, input.len(), explain_pub_area(input)),
-        Form::Json(_) | Form::Client(_) => Ok(Verdict::Unexplained),
+        Form::Json(_) => Ok(Verdict::Unexplained),
     }
 }
 

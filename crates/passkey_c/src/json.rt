@@ -90,7 +90,6 @@ fn form_json(alloc: Global, form: Form, input: &[u8]) -> Result<(Vec<u8>, usize)
     match form {
         Form::Key => key_json(alloc, input),
         Form::Json(_) => encode_form(alloc, form, input),
-        Form::Client(_) => encode_form(alloc, form, input),
         Form::Statement(_) | Form::CertInfo | Form::PubArea => Err(RunFault::UnknownKind),
     }
 }

@@ -1,17 +1,19 @@
 -- What an input of each kind is, and the kinds' names and numbers.
-use Rattle.std.specs.Prelude.{ℕ, Bool, List, false, true, Option, Some, None, option_map}
+use Rattle.std.specs.Prelude.{ℕ, Bool, List, false, Option, Some, None, is_some, option_map}
 use Rattle.passkey_attestation.specs.declared.format.AttestationFormat.TheVariants as format
 use Rattle.passkey_commands.specs.bio_enrollment.BioRequest.{bio_request}
 use Rattle.passkey_commands.specs.bio_enrollment.BioResponse.{bio_response}
-use Rattle.passkey_catalogue.specs.ClientKinds.{client_kinds}
 use Rattle.passkey_catalogue.specs.CtapKinds.{ctap_kinds}
+use Rattle.passkey_catalogue.specs.ClientKinds.{client_kinds}
 use Rattle.passkey_catalogue.specs.Numbers.{value_from}
 use Rattle.passkey_catalogue.specs.contracts.ctap_kind.CtapKind.{the_type as the_ctap_kind}
 use Rattle.passkey_catalogue.specs.contracts.client_kind.ClientKind.{the_type as the_client_kind}
-use Rattle.passkey_catalogue.specs.declared.form.Form.TheVariants as form
-use Rattle.passkey_catalogue.specs.declared.form.Form.{Form}
+use Rattle.passkey_catalogue.specs.declared.any_json_kind.AnyJsonKind.{AnyJsonKind}
+use Rattle.passkey_catalogue.specs.declared.any_json_kind.AnyJsonKind.TheVariants as any
 use Rattle.passkey_catalogue.specs.declared.ctap_kind.CtapKind.TheVariants as ctap
 use Rattle.passkey_catalogue.specs.declared.ctap_kind.CtapKind.{CtapKind}
+use Rattle.passkey_catalogue.specs.declared.form.Form.TheVariants as form
+use Rattle.passkey_catalogue.specs.declared.form.Form.{Form}
 use Rattle.passkey_catalogue.specs.declared.kind.Kind.TheVariants as kind
 use Rattle.passkey_catalogue.specs.declared.kind.Kind.{Kind}
 use Rattle.passkey_commands.specs.client_pin.PinRequest.{pin_request}
@@ -81,9 +83,9 @@ ctap_definition ctap.PubArea = other form.PubArea
 
 abbrev pub definition : Kind → Definition Form
 definition (kind.Bytes k) = bytes_definition k
-definition (kind.Json k) = other (form.Json k)
+definition (kind.Json k) = other (form.Json (any.Ceremony k))
 definition (kind.Ctap k) = ctap_definition k
-definition (kind.Client k) = other (form.Client k)
+definition (kind.Client k) = other (form.Json (any.Client k))
 
 -- the first that is there
 abbrev or_else : {A : Type 0} → Option A → Option A → Option A
@@ -115,8 +117,12 @@ kind_numbered n =
 abbrev pub kind_at : ℕ → Option Kind
 kind_at n = or_else (kind_numbered n) (option_map (λ k. kind.Client k) (value_from client_kinds 200 n))
 
+-- the kind of JSON text that it is, if it is one
+abbrev pub json_of : Kind → Option AnyJsonKind
+json_of (kind.Bytes k) = None
+json_of (kind.Ctap k) = None
+json_of (kind.Json k) = Some (any.Ceremony k)
+json_of (kind.Client k) = Some (any.Client k)
+
 abbrev pub is_json : Kind → Bool
-is_json (kind.Bytes k) = false
-is_json (kind.Ctap k) = false
-is_json (kind.Json k) = true
-is_json (kind.Client k) = true
+is_json k = is_some (json_of k)

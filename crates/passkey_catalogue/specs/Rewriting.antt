@@ -12,11 +12,11 @@ use Rattle.passkey_cose.specs.KeyReading.{read_key}
 use Rattle.passkey_cose.specs.declared.error.CoseError.{CoseError}
 use Rattle.passkey_cose.specs.declared.error.CoseError.TheVariants as error
 use Rattle.passkey_kinds.specs.Message.{Begins}
-use Rattle.passkey_catalogue.specs.ClientKinds.{client_rewritten}
+use Rattle.passkey_catalogue.specs.JsonTexts.{any_json_rewritten}
 use Rattle.passkey_catalogue.specs.declared.form.Form.{Form}
 use Rattle.passkey_catalogue.specs.declared.form.Form.TheVariants as form
 use Rattle.passkey_explain_data.specs.DataLength.{IsDataLength}
-use Rattle.passkey_run.specs.RewritesJson.{IsJsonRefusal, RewritesJson, json_rewritten}
+use Rattle.passkey_run.specs.RewritesJson.{IsJsonRefusal, RewritesJson}
 use Rattle.passkey_run.specs.Definition.{Definition, authenticator, item, message, other}
 use Rattle.passkey_run.specs.Rewriting.{IsFrontLength, IsRefusalAs, RefusesLeadingItem, RewritesAs}
 use Rattle.passkey_run.specs.declared.fault.RunFault.{RunFault}
@@ -87,8 +87,7 @@ EncodesForm form.Key = RewritesKey
 EncodesForm (form.Statement f) = RewritesStatement f
 EncodesForm form.CertInfo = RewritesStructure cert_info_in cert_info_written
 EncodesForm form.PubArea = RewritesStructure pub_area_in pub_area_written
-EncodesForm (form.Json k) = RewritesJson (json_rewritten k)
-EncodesForm (form.Client k) = RewritesJson (client_rewritten k)
+EncodesForm (form.Json k) = RewritesJson (any_json_rewritten k)
 
 -- why it isn't decoded and encoded; memory may run out for any input
 abbrev pub RefusesForm : Form → List ℕ → RunFault → Type 0
@@ -96,8 +95,7 @@ RefusesForm form.Key = IsKeyRefusal
 RefusesForm (form.Statement f) = IsStatementRefusal f
 RefusesForm form.CertInfo = IsStructureRefusal cert_info_in
 RefusesForm form.PubArea = IsStructureRefusal pub_area_in
-RefusesForm (form.Json k) = IsJsonRefusal (json_rewritten k)
-RefusesForm (form.Client k) = IsJsonRefusal (client_rewritten k)
+RefusesForm (form.Json k) = IsJsonRefusal (any_json_rewritten k)
 
 -- how much of it is decoded: the data item that begins the bytes, or all of the input
 abbrev pub IsFormLength : Form → List ℕ → ℕ → Type 0

@@ -1,8 +1,7 @@
 //! What an input may be besides a data item, authenticator data and a message.
 
-use crate::client_kind::ClientKind;
+use crate::any_json_kind::AnyJsonKind;
 use passkey_attestation::AttestationFormat;
-use passkey_run::JsonKind;
 
 /// What an input may be besides a data item, authenticator data and a message.
 #[derive(Clone, Copy, Debug, PartialEq, Eq)]
@@ -16,7 +15,5 @@ pub enum Form {
     /// `pubArea` of a tpm attestation statement.
     PubArea,
     /// A JSON text of this kind.
-    Json(JsonKind),
-    /// A JSON text of this kind.
-    Client(ClientKind),
+    Json(AnyJsonKind),
 }

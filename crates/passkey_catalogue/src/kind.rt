@@ -1,8 +1,9 @@
 //! All kinds of input.
 ghost use Rattle.std.specs.Prelude.{◌≡◌};
-ghost use Rattle.passkey_catalogue.specs.Catalogue.{is_json, kind_at, kind_named, kind_numbered, name_of};
+ghost use Rattle.passkey_catalogue.specs.Catalogue.{is_json, json_of, kind_at, kind_named, kind_numbered, name_of};
 ghost use Rattle.passkey_catalogue.specs.Numbers.{value_from};
 
+use crate::any_json_kind::AnyJsonKind;
 use crate::client_kind::ClientKind;
 use crate::ctap_kind::CtapKind;
 use passkey_run::{BytesKind, JsonKind};
@@ -99,13 +100,21 @@ impl Kind {
         }
     }
 
+    /// The kind of JSON text that inputs of this kind are; `None` if they are bytes.
+    pub fn as_json(self) -> Option<AnyJsonKind>
+        ensures { result ≡ json_of self }
+    {
+        match self {
+            Kind::Bytes(_) | Kind::Ctap(_) => None,
+            Kind::Json(kind) => Some(AnyJsonKind::Ceremony(kind)),
+            Kind::Client(kind) => Some(AnyJsonKind::Client(kind)),
+        }
+    }
+
     /// Whether inputs of this kind are JSON texts, and not bytes.
     pub fn is_json(self) -> bool
         ensures { result ≡ is_json self }
     {
-        match self {
-            Kind::Bytes(_) | Kind::Ctap(_) => false,
-            Kind::Json(_) | Kind::Client(_) => true,
-        }
+        self.as_json().is_some()
     }
 }

@@ -1,25 +1,23 @@
 //! Inputs of any kind, decoded and encoded again.
 ghost use Rattle.std.specs.Prelude.{◌≡◌, IfOk, IfErr, length, string_bytes};
 ghost use Rattle.passkey_catalogue.specs.Catalogue.{definition};
-ghost use Rattle.passkey_catalogue.specs.ClientKinds.{client_rewritten};
+ghost use Rattle.passkey_catalogue.specs.JsonTexts.{any_json_rewritten};
 ghost use Rattle.passkey_catalogue.specs.Rewriting.{Encodes, EncodesForm, IsFormLength, IsRefusal, RefusesForm};
 ghost use Rattle.passkey_explain_data.specs.DataLength.{IsDataLength};
-ghost use Rattle.passkey_run.specs.RewritesJson.{IsJsonRefusal, RewritesJson, json_rewritten};
+ghost use Rattle.passkey_run.specs.RewritesJson.{IsJsonRefusal, RewritesJson};
 ghost use Rattle.passkey_run.specs.Rewriting.{IsDataRefusal, RewritesData};
 
-use crate::client_kind::ClientKind;
+use crate::any_json_kind::AnyJsonKind;
 use crate::form::Form;
-use crate::json::rewrite_client_json;
 use crate::key::rewrite_key;
 use crate::kind::Kind;
 use crate::statement::rewrite_statement;
 use crate::structure::{rewrite_cert_info, rewrite_pub_area};
-use crate::visiting::visit;
+use crate::visiting::{visit, visit_json};
 use passkey_explain_data::data_len;
 use passkey_kinds::Message;
 use passkey_run::{
-    JsonKind, RunFault, Visitor, rewrite_data, rewrite_front_item, rewrite_front_message,
-    rewrite_json,
+    JsonRewriting, RunFault, Visitor, rewrite_data, rewrite_front_item, rewrite_front_message,
 };
 use std::alloc::Global;
 
@@ -31,25 +29,23 @@ fn encode_data(alloc: Global, input: &[u8]) -> Result<(Vec<u8>, usize), RunFault
     Ok((encoding, data_len(input)))
 }
 
-fn encode_json(alloc: Global, kind: JsonKind, input: &[u8]) -> Result<(Vec<u8>, usize), RunFault>
-    ensures ok { IfOk result (λ made. RewritesJson (json_rewritten kind) input.now made.0.items
-        × (made.1 ≡ length input.now)) }
-    ensures err { IfErr result (IsJsonRefusal (json_rewritten kind) input.now) }
+/// Decodes the JSON text as the kind and encodes the result, as compact JSON with bytes in
+/// base64url. Returns `BadJson` if the input isn't a JSON text in UTF-8 of at most 127 nesting
+/// levels; `JsonRefused` if the kind rejects its value, of capabilities with
+/// `Refused("capabilities")` if a member is no boolean; and `OutOfMemory` if an allocation fails.
+pub fn rewrite_json(alloc: Global, kind: AnyJsonKind, input: &[u8]) -> Result<String, RunFault>
+    ensures ok { IfOk result (λ text. RewritesJson (any_json_rewritten kind) input.now (string_bytes text)) }
+    ensures err { IfErr result (IsJsonRefusal (any_json_rewritten kind) input.now) }
 {
-    let text = rewrite_json(alloc, kind, input)?;
-    Ok((text.into_bytes(), input.len()))
+    visit_json(kind, JsonRewriting { alloc, input })
 }
 
-fn encode_client_json(
-    alloc: Global,
-    kind: ClientKind,
-    input: &[u8],
-) -> Result<(Vec<u8>, usize), RunFault>
-    ensures ok { IfOk result (λ made. RewritesJson (client_rewritten kind) input.now made.0.items
+fn encode_json(alloc: Global, kind: AnyJsonKind, input: &[u8]) -> Result<(Vec<u8>, usize), RunFault>
+    ensures ok { IfOk result (λ made. RewritesJson (any_json_rewritten kind) input.now made.0.items
         × (made.1 ≡ length input.now)) }
-    ensures err { IfErr result (IsJsonRefusal (client_rewritten kind) input.now) }
+    ensures err { IfErr result (IsJsonRefusal (any_json_rewritten kind) input.now) }
 {
-    let text = rewrite_client_json(alloc, kind, input)?;
+    let text = rewrite_json(alloc, kind, input)?;
     Ok((text.into_bytes(), input.len()))
 }
 
@@ -65,7 +61,6 @@ pub fn encode_form(alloc: Global, form: Form, input: &[u8]) -> Result<(Vec<u8>, 
         Form::CertInfo => rewrite_cert_info(alloc, input),
         Form::PubArea => rewrite_pub_area(alloc, input),
         Form::Json(kind) => encode_json(alloc, kind, input),
-        Form::Client(kind) => encode_client_json(alloc, kind, input),
     }
 }
 

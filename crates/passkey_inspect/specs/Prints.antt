@@ -1,5 +1,5 @@
 -- What is printed of bytes.
-use Rattle.std.specs.Prelude.{◌≡◌, ◌⊎◌, ℕ, List, [], ◌∷◌, ◌++◌, Some, ⊤, flat_map}
+use Rattle.std.specs.Prelude.{◌≡◌, ◌⊎◌, ℕ, List, [], ◌∷◌, ◌++◌, Option, None, Some, ⊤, flat_map}
 use Rattle.std.specs.Str.{chars}
 use Rattle.hex.specs.Hex.{encode_lower}
 use Rattle.passkey_cbor.specs.Item.{Item}
@@ -11,14 +11,14 @@ use Rattle.passkey_explain.specs.Described.{Described}
 use Rattle.passkey_report.specs.Json.{json_text}
 use Rattle.passkey_inspect_input.specs.Input.{bytes_as}
 use Rattle.passkey_inspect_input.specs.declared.Form.{Form}
-use Rattle.passkey_catalogue.specs.ClientKinds.{client_rewritten}
-use Rattle.passkey_run.specs.RewritesJson.{RewritesJson, json_rewritten}
+use Rattle.passkey_catalogue.specs.JsonTexts.{any_json_rewritten}
+use Rattle.passkey_run.specs.RewritesJson.{RewritesJson}
 use Rattle.passkey_inspect.specs.declared.options.Output.{Output}
 use Rattle.passkey_inspect.specs.declared.options.Output.TheVariants.{Report, Json as JsonText, Diagnosis, Bytes as BytesText, Encoding}
-use Rattle.passkey_catalogue.specs.Catalogue.{definition}
+use Rattle.passkey_catalogue.specs.Catalogue.{definition, json_of}
 use Rattle.passkey_catalogue.specs.Rewriting.{Encodes as EncodesAs}
+use Rattle.passkey_catalogue.specs.declared.any_json_kind.AnyJsonKind.{AnyJsonKind}
 use Rattle.passkey_catalogue.specs.declared.kind.Kind.{Kind}
-use Rattle.passkey_catalogue.specs.declared.kind.Kind.TheVariants as kind
 
 -- Decoding the input as the kind and encoding the result returns this.
 abbrev pub Encodes : Kind → List ℕ → List ℕ → Type 0
@@ -70,10 +70,12 @@ pub record PrintsBytes (output : Output) (bytes line : List ℕ) : Type 0 where
   pub prints : PrintsAs output message line
 
 -- The JSON text of the record that the input is decoded to as the kind, if it is one of JSON.
+abbrev pub RewritesTextAs : Option AnyJsonKind → List ℕ → List ℕ → Type 0
+RewritesTextAs (Some k) = RewritesJson (any_json_rewritten k)
+RewritesTextAs None = λ input text. ⊥
+
 abbrev pub RewritesText : Kind → List ℕ → List ℕ → Type 0
-RewritesText (kind.Json k) = RewritesJson (json_rewritten k)
-RewritesText (kind.Client k) = RewritesJson (client_rewritten k)
-RewritesText _ = λ input text. ⊥
+RewritesText k = RewritesTextAs (json_of k)
 
 -- The text with each character escaped that a terminal could take as a command.
 abbrev pub visible : List ℕ → List ℕ

@@ -156,9 +156,7 @@ fn examine_form(alloc: Global, form: Form, bytes: &[u8]) -> Result<Examined, Out
         Form::Statement(format) => examine_statement(alloc, format, bytes),
         Form::CertInfo => examine_cert_info(alloc, bytes),
         Form::PubArea => examine_pub_area(alloc, bytes),
-        Form::Json(_) | Form::Client(_) => {
-            Ok(Examined::Refused(String::from_str(alloc, "BadJson")?, None))
-        }
+        Form::Json(_) => Ok(Examined::Refused(String::from_str(alloc, "BadJson")?, None)),
     }
 }
 

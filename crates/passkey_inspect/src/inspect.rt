@@ -418,7 +418,7 @@ pub fn inspect(alloc: Global, options: &Options<'_>, input: &[u8]) -> Result<Str
 {
     let form = match (options.form, options.kind) {
         (Some(form), _) => form,
-        (None, Some(InspectKind::Json(_) | InspectKind::Client(_))) => Form::Json,
+        (None, Some(kind)) if kind.is_json() => Form::Json,
         (None, _) => form_of(alloc, input)?,
     };
     if form == Form::Json {

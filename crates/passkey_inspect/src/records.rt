@@ -8,15 +8,10 @@ use crate::inspect::{push_names, push_report, with_line_feed};
 use crate::kind::{FOUND_JSON_KINDS, InspectKind, name_of};
 use crate::options::{Options, Output};
 use passkey_bytes::{Bytes, BytesFault};
-use passkey_catalogue::rewrite_client_json;
+use passkey_catalogue::{RefusedJson, explain_json_as, rewrite_json};
 use passkey_cbor_text::diagnose::escape_controls;
-use passkey_explain_json::{JsonExplanation, explain_client_data, explain_json};
 use passkey_memory::OutOfMemory;
-use passkey_run::{BytesKind, JsonKind, RunFault, parse_json, rewrite_json};
-use passkey_webauthn_json::credentials::{
-    AuthenticatedPublicKeyCredential, CreatedPublicKeyCredential,
-};
-use passkey_webauthn_json::options::{CredentialCreationOptions, CredentialRequestOptions};
+use passkey_run::{BytesKind, JsonKind, RunFault, parse_json};
 use serde_json::Value;
 use std::alloc::Global;
 
@@ -121,32 +116,25 @@ fn report(
     Ok(text)
 }
 
-fn explain_kind(
-    alloc: Global,
-    kind: JsonKind,
-    value: &Value,
-) -> Result<Option<JsonExplanation>, OutOfMemory> {
-    match kind {
-        JsonKind::Creation => explain_json::<CredentialCreationOptions>(alloc, value),
-        JsonKind::Request => explain_json::<CredentialRequestOptions>(alloc, value),
-        JsonKind::Created => explain_json::<CreatedPublicKeyCredential>(alloc, value),
-        JsonKind::Authenticated => explain_json::<AuthenticatedPublicKeyCredential>(alloc, value),
-        JsonKind::ClientData => explain_client_data(alloc, value),
+/// Returns a line feed, and what in the value is blamed; or no text if nothing is.
+fn blame_text(alloc: Global, refused: &RefusedJson) -> Result<String, OutOfMemory> {
+    match &refused.blame {
+        Some(blame) => Ok(format!(in alloc; "\n{blame}")?),
+        None => Ok(String::new(alloc)),
     }
 }
 
-/// Returns a line feed, and what in the value the kind refuses; or no text of other kinds, which
-/// aren't explained.
+/// Returns a line feed, and what in the value the kind refuses; or no text if that isn't known, or if
+/// the kind isn't one of JSON.
 fn kind_blame(alloc: Global, kind: InspectKind, value: &Value) -> Result<String, OutOfMemory> {
-    let InspectKind::Json(kind) = kind else {
+    let Some(kind) = kind.as_json() else {
         return Ok(String::new(alloc));
     };
-    match explain_kind(alloc, kind, value)? {
-        Some(explanation) => {
-            let blame = &explanation.blame;
-            let text = format!(in alloc; "\n{blame}");
-            drop(explanation);
-            Ok(text?)
+    match explain_json_as(alloc, kind, value)? {
+        Some(refused) => {
+            let text = blame_text(alloc, &refused);
+            drop(refused);
+            text
         }
         None => Ok(String::new(alloc)),
     }
@@ -177,10 +165,9 @@ fn refused(
 fn rewrite(alloc: Global, kind: InspectKind, input: &[u8]) -> Result<String, RunFault>
     ensures { IfOk result (λ text. RewritesText kind input.now (string_bytes text)) }
 {
-    match kind {
-        InspectKind::Json(kind) => rewrite_json(alloc, kind, input),
-        InspectKind::Client(kind) => rewrite_client_json(alloc, kind, input),
-        InspectKind::Bytes(_) | InspectKind::Ctap(_) => Err(RunFault::BadHex),
+    match kind.as_json() {
+        Some(kind) => rewrite_json(alloc, kind, input),
+        None => Err(RunFault::BadHex),
     }
 }
 

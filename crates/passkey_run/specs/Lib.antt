@@ -1,4 +1,5 @@
 pub mod Definition
+pub mod JsonDefinition
 pub mod Kind
 pub mod Trimmed
 pub mod Fault

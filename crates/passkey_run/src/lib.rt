@@ -1,6 +1,6 @@
 //! What `passkey_show` does with its input, bytes in hexadecimal or a JSON text: it decodes it as one
-//! of the kinds and encodes it again, or checks bytes for CTAP2's canonical form. `Visitor` does
-//! something else with a kind. And reading the input and writing the output.
+//! of the kinds and encodes it again, or checks bytes for CTAP2's canonical form. `Visitor` and
+//! `JsonVisitor` do something else with a kind. And reading the input and writing the output.
 #![tactic(auto)]
 
 mod check;
@@ -8,6 +8,7 @@ mod fault;
 mod hexadecimal;
 mod input;
 mod json;
+mod json_visitor;
 mod kind;
 mod rewrite_bytes;
 mod rewriting;
@@ -21,13 +22,14 @@ pub use check::check_hex;
 pub use fault::RunFault;
 pub use hexadecimal::decode_hex;
 pub use input::rewrite;
-pub use json::{parse_json, rewrite_client_data, rewrite_json, rewrite_record};
+pub use json::{JsonRewriting, object_from, parse_json, rewrite_json, rewrite_record};
+pub use json_visitor::JsonVisitor;
 pub use kind::{BytesKind, JsonKind, Kind};
 pub use rewrite_bytes::rewrite_raw;
 pub use rewriting::{
     rewrite_data, rewrite_front_item, rewrite_front_message, rewrite_item, rewrite_message,
 };
 pub use streams::{read_all, read_within, write_all};
-pub use visiting::visit_bytes;
+pub use visiting::{visit_bytes, visit_json};
 pub use visitor::Visitor;
 pub use words::{kind_of, read_words};

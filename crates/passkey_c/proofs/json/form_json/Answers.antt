@@ -11,11 +11,3 @@ returns-in-Json-clause-ok c =
     subst (λ (f : Form). IfOk c.encode_form.result (λ made. IsFormJson f input made.0.items made.1)) (sym c.in-Json.is)
     (subst (λ (f : Form). IfOk c.encode_form.result (λ made. EncodesForm f input made.0.items × IsFormLength f input made.1))
     c.in-Json.is c.encode_form.ensures.ok)
-
-pub returns-in-Client-clause-ok : goal.returns-in-Client-clause-ok
-returns-in-Client-clause-ok c =
-    let input = c.args.input.now in
-    let r = c.encode_form-in-Client.result in
-    subst (λ (f : Form). IfOk r (λ made. IsFormJson f input made.0.items made.1)) (sym c.in-Client.is)
-    (subst (λ (f : Form). IfOk r (λ made. EncodesForm f input made.0.items × IsFormLength f input made.1))
-    c.in-Client.is c.encode_form-in-Client.ensures.ok)

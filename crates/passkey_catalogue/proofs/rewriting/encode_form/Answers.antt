@@ -15,6 +15,3 @@ returns-in-PubArea-clause-ok c = rw c.in-PubArea.is c.rewrite_pub_area.ensures.o
 
 pub returns-in-Json-clause-ok : goal.returns-in-Json-clause-ok
 returns-in-Json-clause-ok c = rw c.in-Json.is c.encode_json.ensures.ok
-
-pub returns-in-Client-clause-ok : goal.returns-in-Client-clause-ok
-returns-in-Client-clause-ok c = rw c.in-Client.is c.encode_client_json.ensures.ok

@@ -1,8 +1,11 @@
+use Rattle.std.proofs.Common.{IfOk, Option, string_bytes, subst}
+use Rattle.passkey_catalogue.specs.declared.any_json_kind.AnyJsonKind.{AnyJsonKind}
 use Rattle.passkey_inspect.proofs.records.rewrite.Goals as goal
+use Rattle.passkey_inspect.specs.Prints.{RewritesTextAs}
 
 -- The call's clause is that of the kind.
-pub returns-in-Json : goal.returns-in-Json
-returns-in-Json c = rw c.in-Json.is c.rewrite_json.ensures.ok
-
-pub returns-in-Client : goal.returns-in-Client
-returns-in-Client c = rw c.in-Client.is c.rewrite_client_json.ensures.ok
+pub returns-in-Some : goal.returns-in-Some
+returns-in-Some c =
+    let input = c.args.input.now in
+    subst (λ (k : Option AnyJsonKind). IfOk c.rewrite_json.result (λ text. RewritesTextAs k input (string_bytes text)))
+    c.in-Some.ensures c.rewrite_json.ensures.ok
