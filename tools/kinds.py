@@ -56,8 +56,7 @@ def of_bytes():
 
 
 def has_text(name):
-    """Whether libpuffgrit says what is in inputs of this kind, and if they are bytes why they are refused: of all but attestation
-    statements and structures of a TPM."""
+    """Whether libpuffgrit says what is in inputs of this kind: of all but attestation statements and structures of a TPM."""
     return not name.startswith(("att-", "tpm-"))
 
 

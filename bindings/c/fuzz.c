@@ -77,11 +77,10 @@ static void examine(uint32_t kind, const uint8_t *bytes, size_t len) {
     uint32_t wanted = puffgrit_rewrite(kind, bytes, len, &read, &none, 0, &needed);
     uint32_t json = puffgrit_json(kind, bytes, len, &shown, &none, 0, &needed);
     uint32_t status = puffgrit_explain(kind, bytes, len, &accepted, &refusal, &none, 0, &told);
-    int is_shown = kind <= PUFFGRIT_KIND_GA_UNSIGNED, is_explained = is_shown && !is_json_text(kind);
+    int is_shown = kind <= PUFFGRIT_KIND_GA_UNSIGNED;
     want(none == 0xa5);
     want(json == (is_shown ? wanted : PUFFGRIT_UNKNOWN_KIND) && shown == (is_shown ? read : 0));
-    want(status == (!is_explained ? PUFFGRIT_UNKNOWN_KIND : wanted == PUFFGRIT_TOO_SHORT ? PUFFGRIT_OK : wanted));
-    want(accepted == (is_explained ? read : 0));
+    want(status == (wanted == PUFFGRIT_TOO_SHORT ? PUFFGRIT_OK : wanted) && accepted == read);
     if (status >= PUFFGRIT_FAULT_DECODE_FAILED) want(told > 0 && refusal.offset <= len && refusal.len <= len - refusal.offset);
 }
 

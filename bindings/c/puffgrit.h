@@ -126,7 +126,7 @@ typedef unsigned char puffgrit_bool; /* 0 or 1 */
 /* Which bytes of an input are refused. */
 typedef struct {
     /* The offset of the first byte: of a data item, a map key or a part that is refused, or of where the bytes aren't
-       well-formed. */
+       well-formed; 0 of a JSON text. */
     size_t offset;
     /* Their number: the length of the data item, the map key or the part, or all bytes from there on. */
     size_t len;
@@ -197,14 +197,15 @@ uint32_t puffgrit_json(uint32_t kind, const uint8_t *input, size_t input_len, si
 
 /* Explains why the input is refused as this kind. Returns PUFFGRIT_OK if it is accepted, with how many of its bytes were
    decoded in read, as puffgrit_rewrite; the status of its fault, as puffgrit_rewrite; PUFFGRIT_OUT_OF_MEMORY if an
-   allocation fails; or PUFFGRIT_UNKNOWN_KIND. The kinds are those of bytes. For a fault refusal says which bytes are
-   refused: of a message the innermost data item, or map key, that its table refuses; of authenticator data the part, or
-   what in the credential public key; of a COSE key the label or the value that is no key's; of an attestation statement
-   the data item or map key that its format refuses; of a structure of a TPM the field; or the bytes from where they
-   aren't well-formed; and a text is written to the beginning of out, or as much of it as there is room for, and its
-   whole length to len. It says in ASCII where these bytes are and what is wanted there, as "user.id: a byte string is
-   wanted (offset 58, length 10)". Otherwise nothing is written. (CTAP 2.1, section 6; RFC 8949, section 3; WebAuthn
-   Level 3, sections 6.1 and 8.) */
+   allocation fails; or PUFFGRIT_UNKNOWN_KIND. For a fault refusal says which bytes are refused: of a message the
+   innermost data item, or map key, that its table refuses; of authenticator data the part, or what in the credential
+   public key; of a COSE key the label or the value that is no key's; of an attestation statement the data item or map
+   key that its format refuses; of a structure of a TPM the field; or the bytes from where they aren't well-formed; of a
+   JSON text all of it. And a text is written to the beginning of out, or as much of it as there is room for, and its
+   whole length to len. It says where these bytes are and what is wanted there, as "user.id: a byte string is wanted
+   (offset 58, length 10)"; of a JSON text it names the value, as "publicKey.timeout: an integer from 0 to 4294967295 is
+   wanted". It is ASCII, but for the names of members in a JSON text that no record knows, which are UTF-8. Otherwise
+   nothing is written. (CTAP 2.1, section 6; RFC 8949, section 3; WebAuthn Level 3, sections 5, 6.1 and 8.) */
 uint32_t puffgrit_explain(uint32_t kind, const uint8_t *input, size_t input_len, size_t *read, puffgrit_refusal *refusal, uint8_t *out, size_t out_len, size_t *len);
 
 /* Returns the length in bytes of the data item at the beginning of the bytes, or 0 if they don't begin with a

@@ -68,7 +68,7 @@ export async function loadAll(source) {
   function accepted(name, kind, kinds, bytes) {
     const made = whole(name, numberOf(kind, kinds), bytes);
     if (made.status === OK) return made;
-    throw (EXPLAINED.includes(kind) && explain(kind, bytes)) || new Fault(made.status);
+    throw explain(kind, bytes) ?? new Fault(made.status);
   }
 
   /** What `rewrite` returns, and how many of the bytes were decoded. */

@@ -74,9 +74,9 @@ class Fault(ValueError):
 
     def __init__(self, name: str, member: int | None) -> None:
         super().__init__(name if member is None else f"{name}({member})")
-        #: Where in a message and why, as "user.id: a byte string is wanted (offset 58, length 10)"; `None` for other kinds.
+        #: Where in the input and why, as "user.id: a byte string is wanted (offset 58, length 10)".
         self.explanation: str | None = None
-        #: The offset of what is refused: of a data item or a map key, or of where the bytes aren't well-formed.
+        #: The offset of what is refused: of a data item or a map key, or of where the bytes aren't well-formed; 0 of a JSON text.
         self.offset: int | None = None
         #: The length of what is refused in bytes.
         self.length: int | None = None
@@ -241,7 +241,7 @@ def _written(call: Callable[..., int], kind: str, data: bytes) -> tuple[bytes, i
         return out.raw[: length.value], read.value
     if status == 2:
         raise MemoryError("puffgrit")
-    raise (explain(kind, data) if kind in EXPLAINED else None) or _fault(status)
+    raise explain(kind, data) or _fault(status)
 
 
 def _fault(status: int) -> Fault:
@@ -282,7 +282,7 @@ def decode_front(kind: str, data: bytes) -> tuple[Any, int]:
 
 def explain(kind: str, data: bytes) -> Fault | None:
     """Why the data is rejected as the kind (one of `EXPLAINED`), or `None` if it isn't. Raises `MemoryError`."""
-    number, room = _number(kind, EXPLAINED), 1024
+    number, room = _number(kind), 1024
     read, length, refusal = ctypes.c_size_t(), ctypes.c_size_t(), _c.Refusal()
     given = (number, _checked(data), len(data), ctypes.byref(read), ctypes.byref(refusal))
     while True:
@@ -296,5 +296,5 @@ def explain(kind: str, data: bytes) -> Fault | None:
             break
         room = length.value
     fault = _fault(status)
-    fault.explanation, fault.offset, fault.length = out.raw[: length.value].decode("ascii"), refusal.offset, refusal.length
+    fault.explanation, fault.offset, fault.length = out.raw[: length.value].decode(), refusal.offset, refusal.length
     return fault

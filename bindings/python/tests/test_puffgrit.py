@@ -122,6 +122,16 @@ class Puffgrit(unittest.TestCase):
         self.assertTrue(cut.explanation.startswith("signCount: "))
         self.assertIsNone(puffgrit.explain("auth", bytes(38)))
         self.assertEqual(puffgrit.explain("cbor", b"\x81").offset, 1)
+        # WebAuthn Level 3, sections 5.4 and 5.8.1
+        text = b'{"publicKey":{"challenge":"AQ","timeout":60000.5}}'
+        with self.assertRaises(puffgrit.Fault) as caught:
+            puffgrit.rewrite("request", text)
+        fault = caught.exception
+        self.assertEqual((fault.name, fault.member, fault.offset, fault.length), ("Float", None, 0, len(text)))
+        self.assertEqual(fault.explanation, "publicKey.timeout: an integer from 0 to 4294967295 is wanted")
+        self.assertEqual(puffgrit.explain("client-data", b"[]").explanation, "an object is wanted")
+        self.assertEqual(puffgrit.explain("client-data", "{\"ü\"".encode()).name, "BadJson")
+        self.assertIsNone(puffgrit.explain("request", b'{"publicKey":{"challenge":"AQ"}}'))
 
     def test_arguments(self):
         with self.assertRaises(TypeError):

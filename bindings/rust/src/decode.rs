@@ -8,7 +8,7 @@ use crate::{Error, Fault, Kind};
 #[derive(Clone, Copy, Debug, Default, PartialEq, Eq)]
 pub struct Refusal {
     /// The offset of the first byte: of a data item or a map key that is refused, or of where the bytes
-    /// aren't well-formed.
+    /// aren't well-formed; 0 of a JSON text, all of which it is.
     pub offset: usize,
     /// Their number.
     pub len: usize,
@@ -99,7 +99,7 @@ pub struct Explanation<'a> {
     /// The number of the message's member that the fault is about.
     pub member: Option<u8>,
     pub refusal: Refusal,
-    /// Where in the input and why, in ASCII; cut off where the output ends.
+    /// Where in the input and why; cut off where the output ends.
     pub text: &'a str,
 }
 
@@ -111,8 +111,7 @@ pub enum Verdict<'a> {
     Rejected(Explanation<'a>),
 }
 
-/// Explains why the input is rejected as the kind, with a text in the output. The kinds are those of
-/// bytes.
+/// Explains why the input is rejected as the kind, with a text in the output.
 pub fn explain<'a>(kind: Kind, input: &[u8], out: &'a mut [u8]) -> Result<Verdict<'a>, Error> {
     let (mut read, mut len, mut refusal) = (0, 0, Refusal::default());
     let (given, start, room) = (input.as_ptr(), out.as_mut_ptr(), out.len());
@@ -125,7 +124,12 @@ pub fn explain<'a>(kind: Kind, input: &[u8], out: &'a mut [u8]) -> Result<Verdic
         Error::Rejected { fault, member } => (fault, member),
         error => return Err(error),
     };
-    let text = core::str::from_utf8(&out[..len.min(room)]).unwrap_or("");
+    // The text is UTF-8, and may be cut off within a character.
+    let written = &out[..len.min(room)];
+    let text = match core::str::from_utf8(written) {
+        Ok(text) => text,
+        Err(error) => core::str::from_utf8(&written[..error.valid_up_to()]).unwrap_or(""),
+    };
     Ok(Verdict::Rejected(Explanation { fault, member, refusal, text }))
 }
 
@@ -155,7 +159,9 @@ mod tests {
         let mut out = [0; 128];
         assert_eq!(json(Kind::Info, info, &mut out), Ok(Lengths { read: info.len(), written: text.len() }));
         assert_eq!(out[..text.len()], text[..]);
-        assert_eq!(explain(Kind::Request, b"{}", &mut out), Err(Error::UnknownKind));
+        let Ok(Verdict::Rejected(told)) = explain(Kind::Request, b"{}", &mut out) else { panic!("accepted") };
+        assert_eq!((told.fault, told.member, told.refusal), (21, 0, Refusal { offset: 0, len: 2 }));
+        assert_eq!(told.text, "publicKey is missing");
         assert_eq!(explain(Kind::Info, info, &mut out), Ok(Verdict::Accepted(info.len())));
         assert_eq!(explain(Kind::Auth, &[0; 38], &mut out), Ok(Verdict::Accepted(37)));
         for (given, fault, member, offset, len) in [

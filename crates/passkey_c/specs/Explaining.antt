@@ -1,5 +1,5 @@
 -- What a call that explains why an input is refused returns, and leaves in the caller's memory.
-use Rattle.std.specs.Prelude.{◌≡◌, ◌-◌, ◌+◌, ◌++◌, ◌⊎◌, ℕ, List, length, take, drop, Bool, true, false, if◌then◌else◌, Option, Some, None, Result, Ok, Err, ⊤}
+use Rattle.std.specs.Prelude.{◌≡◌, ◌-◌, ◌+◌, ◌++◌, ◌⊎◌, ℕ, List, length, take, drop, Bool, true, false, if◌then◌else◌, Option, Some, None, Result, Ok, Err}
 use Rattle.passkey_attestation.specs.declared.fault.StatementFault.{StatementFault}
 use Rattle.passkey_attestation.specs.declared.fault.StatementFault.TheVariants.{Member}
 use Rattle.passkey_attestation.specs.declared.format.AttestationFormat.{AttestationFormat}
@@ -37,6 +37,7 @@ use Rattle.passkey_run.specs.Rewriting.{IsFrontLength}
 use Rattle.passkey_tpm.specs.CertInfo.{cert_info_refusal}
 use Rattle.passkey_tpm.specs.PubArea.{pub_area_refusal}
 use Rattle.passkey_tpm.specs.declared.refusal.TpmRefusal.{TpmRefusal}
+use Rattle.passkey_c.specs.ExplainingJson.{AcceptsJson, TellsJson}
 use Rattle.passkey_c.specs.Statuses.{data_status, message_status, statement_status}
 use Rattle.passkey_c.specs.declared.verdict.Refusal.{Refusal}
 use Rattle.passkey_c.specs.declared.verdict.Verdict.{Verdict}
@@ -62,28 +63,23 @@ pub record IsTold (Tells : ℕ → Refusal → Type 0) (old new : Memory) (statu
 abbrev pub IsUnknown : Memory → Memory → ℕ → Type 0
 IsUnknown old new status = (status ≡ 3) × (new ≡ old)
 
--- Status 0 if so many bytes are accepted; 2 if memory ran out; 3 if inputs of the kind aren't explained; or the fault's
--- status.
-pub data Explaining (Accepts : ℕ → Type 0) (Tells : ℕ → Refusal → Type 0) (IsUnexplained : Type 0)
-    (old new : Memory) (status : ℕ) : Type 0
+-- Status 0 if so many bytes are accepted; 2 if memory ran out; or the fault's status.
+pub data Explaining (Accepts : ℕ → Type 0) (Tells : ℕ → Refusal → Type 0) (old new : Memory) (status : ℕ) : Type 0
   where
     accepted : status ≡ 0 → (n : ℕ) → Accepts n → new ≡ record old { read = n }
-        → Explaining Accepts Tells IsUnexplained old new status
-    exhausted : status ≡ 2 → new ≡ old → Explaining Accepts Tells IsUnexplained old new status
-    unexplained : IsUnexplained → IsUnknown old new status → Explaining Accepts Tells IsUnexplained old new status
-    told : IsTold Tells old new status → Explaining Accepts Tells IsUnexplained old new status
+        → Explaining Accepts Tells old new status
+    exhausted : status ≡ 2 → new ≡ old → Explaining Accepts Tells old new status
+    told : IsTold Tells old new status → Explaining Accepts Tells old new status
 
-abbrev pub IsVerdict : (ℕ → Type 0) → (ℕ → Refusal → Type 0) → Type 0 → Verdict → Type 0
-IsVerdict Accepts Tells IsUnexplained (verdict.Accepted n) = Accepts n
-IsVerdict Accepts Tells IsUnexplained (verdict.Refused r) = Tells r.status r.refusal
-IsVerdict Accepts Tells IsUnexplained verdict.Unexplained = IsUnexplained
+abbrev pub IsVerdict : (ℕ → Type 0) → (ℕ → Refusal → Type 0) → Verdict → Type 0
+IsVerdict Accepts Tells (verdict.Accepted n) = Accepts n
+IsVerdict Accepts Tells (verdict.Refused r) = Tells r.status r.refusal
 
 -- what is written of a verdict
 abbrev pub TellsResult : {E : Type 0} → Result Verdict E → Memory → Memory → ℕ → Type 0
 TellsResult (Ok (verdict.Accepted n)) old new status = (status ≡ 0) × (new ≡ record old { read = n })
 TellsResult (Ok (verdict.Refused r)) old new status =
     IsTold (λ s b. (s ≡ r.status) × (b ≡ r.refusal)) old new status
-TellsResult (Ok verdict.Unexplained) old new status = IsUnknown old new status
 TellsResult (Err e) old new status = (status ≡ 2) × (new ≡ old)
 
 -- ---- data items
@@ -219,7 +215,7 @@ AcceptsForm form.Key = AcceptsKey
 AcceptsForm (form.Statement f) = AcceptsStatement f
 AcceptsForm form.CertInfo = λ input. AcceptsStructure (cert_info_refusal input) (length input)
 AcceptsForm form.PubArea = λ input. AcceptsStructure (pub_area_refusal input) (length input)
-AcceptsForm _ = λ input n. ⊥
+AcceptsForm (form.Json k) = AcceptsJson k
 
 abbrev pub Accepts : Definition Form → List ℕ → ℕ → Type 0
 Accepts item = IsFrontLength
@@ -233,7 +229,7 @@ TellsForm form.Key = TellsNoKey
 TellsForm (form.Statement f) = TellsStatement f
 TellsForm form.CertInfo = λ input. TellsStructure (cert_info_refusal input)
 TellsForm form.PubArea = λ input. TellsStructure (pub_area_refusal input)
-TellsForm _ = λ input status refusal. ⊥
+TellsForm (form.Json k) = TellsJson k
 
 abbrev pub Tells : Definition Form → List ℕ → ℕ → Refusal → Type 0
 Tells item = TellsItem
@@ -241,16 +237,7 @@ Tells authenticator = TellsData
 Tells (message t tree) = TellsMessage t
 Tells (other f) = TellsForm f
 
--- JSON texts aren't explained
-abbrev pub IsUnexplainedForm : Form → Type 0
-IsUnexplainedForm (form.Json k) = ⊤
-IsUnexplainedForm _ = ⊥
-
-abbrev pub IsUnexplained : Definition Form → Type 0
-IsUnexplained (other f) = IsUnexplainedForm f
-IsUnexplained _ = ⊥
-
 abbrev pub ExplainsAs : Option Kind → List ℕ → Memory → Memory → ℕ → Type 0
 ExplainsAs (Some kind) input old new status =
-    let d = definition kind in Explaining (Accepts d input) (Tells d input) (IsUnexplained d) old new status
+    let d = definition kind in Explaining (Accepts d input) (Tells d input) old new status
 ExplainsAs None input old new status = IsUnknown old new status

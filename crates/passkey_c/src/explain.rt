@@ -2,13 +2,14 @@
 ghost use Rattle.std.specs.Prelude.{◌≡◌, ℕ, IfOk, Some};
 ghost use Rattle.passkey_cbor.specs.Item.{Item};
 ghost use Rattle.passkey_cbor.specs.LeadingItem.{HasNoLeadingItem, IsLeadingItem};
-ghost use Rattle.passkey_c.specs.Explaining.{Accepts, AcceptsData, AcceptsForm, AcceptsKey, AcceptsMessage, AcceptsStatement, AcceptsStructure, ExplainsAs, IsUnexplained, IsUnexplainedForm, IsVerdict, Tells, TellsData, TellsForm, TellsItem, TellsKey, TellsMessage, TellsNoKey, TellsStatement, TellsStructure, bytes_in, fault_of, refusal_in, refusal_of, refused_in_front, statement_fault_of, statement_refusal_of, structure_refusal};
+ghost use Rattle.passkey_c.specs.Explaining.{Accepts, AcceptsData, AcceptsForm, AcceptsKey, AcceptsMessage, AcceptsStatement, AcceptsStructure, ExplainsAs, IsVerdict, Tells, TellsData, TellsForm, TellsItem, TellsKey, TellsMessage, TellsNoKey, TellsStatement, TellsStructure, bytes_in, fault_of, refusal_in, refusal_of, refused_in_front, statement_fault_of, statement_refusal_of, structure_refusal};
 ghost use Rattle.passkey_catalogue.specs.Catalogue.{definition, kind_numbered};
 ghost use Rattle.passkey_explain_data.specs.KeyBlame.{key_blame};
 ghost use Rattle.passkey_run.specs.Rewriting.{IsFrontLength};
 ghost use Rattle.passkey_tpm.specs.CertInfo.{cert_info_refusal};
 ghost use Rattle.passkey_tpm.specs.PubArea.{pub_area_refusal};
 
+use crate::explain_json::judge_json;
 use crate::status::{data_status, message_status, statement_status};
 use crate::verdict::{Reason, Refusal, Verdict, refused_from, tell};
 use passkey_attestation::{AttestationFormat, StatementFault};
@@ -42,7 +43,7 @@ fn tell_item(alloc: Global, input: &[u8]) -> Result<Reason, OutOfMemory>
 }
 
 fn judge_item(alloc: Global, input: &[u8]) -> Result<Verdict, OutOfMemory>
-    ensures { IfOk result (IsVerdict (IsFrontLength input.now) (TellsItem input.now) ⊥) }
+    ensures { IfOk result (IsVerdict (IsFrontLength input.now) (TellsItem input.now)) }
 {
     match item_len(input) {
         Some(len) => Ok(Verdict::Accepted(len)),
@@ -66,7 +67,7 @@ fn tell_key(alloc: Global, input: &[u8], refused: KeyRefusal) -> Result<Reason, 
 }
 
 fn judge_key(alloc: Global, input: &[u8]) -> Result<Verdict, OutOfMemory>
-    ensures { IfOk result (IsVerdict (AcceptsKey input.now) (TellsNoKey input.now) ⊥) }
+    ensures { IfOk result (IsVerdict (AcceptsKey input.now) (TellsNoKey input.now)) }
 {
     let (value, len) = match Value::from_slice(alloc, input) {
         Ok(front) => front,
@@ -112,7 +113,7 @@ fn front_len(input: &[u8]) -> usize
 
 fn judge_message<M: Message>(alloc: Global, input: &[u8]) -> Result<Verdict, OutOfMemory>
     ensures { IfOk result
-        (IsVerdict (AcceptsMessage M.fields input.now) (TellsMessage M.fields input.now) ⊥) }
+        (IsVerdict (AcceptsMessage M.fields input.now) (TellsMessage M.fields input.now)) }
 {
     let Some(explanation) = explain::<M>(alloc, input)? else {
         return Ok(Verdict::Accepted(front_len(input)));
@@ -164,7 +165,7 @@ fn refusal_in(refused: DataRefusal, len: usize) -> Refusal
 }
 
 fn judge_data(alloc: Global, input: &[u8]) -> Result<Verdict, OutOfMemory>
-    ensures { IfOk result (IsVerdict (AcceptsData input.now) (TellsData input.now) ⊥) }
+    ensures { IfOk result (IsVerdict (AcceptsData input.now) (TellsData input.now)) }
 {
     let found = explain_data(alloc, input)?;
     let Some(refused) = refused_in_front(found) else {
@@ -207,7 +208,7 @@ fn judge_statement(
     input: &[u8],
 ) -> Result<Verdict, OutOfMemory>
     ensures { IfOk result
-        (IsVerdict (AcceptsStatement format input.now) (TellsStatement format input.now) ⊥) }
+        (IsVerdict (AcceptsStatement format input.now) (TellsStatement format input.now)) }
 {
     let Some(explanation) = explain_statement(alloc, format, input)? else {
         return Ok(Verdict::Accepted(front_len(input)));
@@ -226,7 +227,7 @@ fn judge_structure(
     len: usize,
     found: Option<TpmRefusal>,
 ) -> Result<Verdict, OutOfMemory>
-    ensures { IfOk result (IsVerdict (AcceptsStructure found len) (TellsStructure found) ⊥) }
+    ensures { IfOk result (IsVerdict (AcceptsStructure found len) (TellsStructure found)) }
 {
     let Some(refused) = found else {
         return Ok(Verdict::Accepted(len));
@@ -250,15 +251,14 @@ fn structure_refusal(refused: TpmRefusal) -> Refusal
 }
 
 fn judge_form(alloc: Global, form: Form, input: &[u8]) -> Result<Verdict, OutOfMemory>
-    ensures { IfOk result
-        (IsVerdict (AcceptsForm form input.now) (TellsForm form input.now) (IsUnexplainedForm form)) }
+    ensures { IfOk result (IsVerdict (AcceptsForm form input.now) (TellsForm form input.now)) }
 {
     match form {
         Form::Key => judge_key(alloc, input),
         Form::Statement(format) => judge_statement(alloc, format, input),
         Form::CertInfo => judge_structure(alloc, input.len(), explain_cert_info(input)),
         Form::PubArea => judge_structure(alloc, input.len(), explain_pub_area(input)),
-        Form::Json(_) => Ok(Verdict::Unexplained),
+        Form::Json(kind) => judge_json(alloc, kind, input),
     }
 }
 
@@ -274,8 +274,7 @@ impl<'a> Visitor for Judging<'a> {
 
     type Other = Form;
 
-    ghost Gives = { λ v d result. IfOk result
-        (IsVerdict (Accepts d v.input.now) (Tells d v.input.now) (IsUnexplained d)) };
+    ghost Gives = { λ v d result. IfOk result (IsVerdict (Accepts d v.input.now) (Tells d v.input.now)) };
 
     fn visit_item(self) -> Result<Verdict, OutOfMemory> {
         judge_item(self.alloc, self.input)
@@ -295,27 +294,28 @@ impl<'a> Visitor for Judging<'a> {
 }
 
 fn judge(alloc: Global, kind: Kind, input: &[u8]) -> Result<Verdict, OutOfMemory>
-    ensures { IfOk result (IsVerdict (Accepts (definition kind) input.now) (Tells (definition kind) input.now)
-        (IsUnexplained (definition kind))) }
+    ensures { IfOk result
+        (IsVerdict (Accepts (definition kind) input.now) (Tells (definition kind) input.now)) }
 {
     visit(kind, Judging { alloc, input })
 }
 
 /// Explains why the input is refused as this kind. Returns PUFFGRIT_OK if it is accepted, with how
 /// many of its bytes were decoded in `read`, as puffgrit_rewrite; the status of its fault, as
-/// puffgrit_rewrite; PUFFGRIT_OUT_OF_MEMORY if an allocation fails; or PUFFGRIT_UNKNOWN_KIND. The
-/// kinds are those of bytes.
+/// puffgrit_rewrite; PUFFGRIT_OUT_OF_MEMORY if an allocation fails; or PUFFGRIT_UNKNOWN_KIND.
 ///
 /// For a fault `refusal` says which bytes are refused: of a message the innermost data item, or map
 /// key, that its table refuses; of authenticator data the part, or what in the credential public key;
 /// of a COSE key the label or the value that is no key's; of an attestation statement the data item
 /// or map key that its format refuses; of a structure of a TPM the field; or the bytes from where
-/// they aren't well-formed; and a text is written to the beginning of `out`, or as much of it as there is room
-/// for, and its whole length to `len`. It says in ASCII where these bytes are and what is wanted
-/// there, as "user.id: a byte string is wanted (offset 58, length 10)". Otherwise nothing is
-/// written.
+/// they aren't well-formed; of a JSON text all of it. And a text is written to the beginning of `out`,
+/// or as much of it as there is room for, and its whole length to `len`. It says where these bytes are
+/// and what is wanted there, as "user.id: a byte string is wanted (offset 58, length 10)"; of a JSON
+/// text it names the value, as "publicKey.timeout: an integer from 0 to 4294967295 is wanted". It is
+/// ASCII, but for the names of members in a JSON text that no record knows, which are UTF-8. Otherwise
+/// nothing is written.
 ///
-/// (CTAP 2.1, section 6; RFC 8949, section 3; WebAuthn Level 3, sections 6.1 and 8.)
+/// (CTAP 2.1, section 6; RFC 8949, section 3; WebAuthn Level 3, sections 5, 6.1 and 8.)
 #[unsafe(no_mangle)]
 pub extern "C" fn puffgrit_explain(
     alloc: Global,

@@ -6,6 +6,7 @@
 ghost use Rattle.std.specs.Prelude.{◌≡◌};
 
 mod explain;
+mod explain_json;
 mod json;
 mod rewrite;
 mod status;

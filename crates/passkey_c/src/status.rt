@@ -58,7 +58,7 @@ pub(crate) fn statement_status(fault: StatementFault) -> u32
 }
 
 /// Returns the status of the fault of a JSON value.
-fn json_status(fault: JsonFault) -> u32
+pub(crate) fn json_status(fault: JsonFault) -> u32
     ensures { result ≡ json_status fault }
 {
     match fault {

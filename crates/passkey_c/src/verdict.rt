@@ -10,7 +10,7 @@ use passkey_memory::OutOfMemory;
 #[derive(Clone, Copy, Debug, PartialEq, Eq)]
 pub struct Refusal {
     /// The offset of the first byte: of a data item, a map key or a part that is refused, or of where
-    /// the bytes aren't well-formed.
+    /// the bytes aren't well-formed; 0 of a JSON text.
     pub offset: usize,
     /// Their number: the length of the data item, the map key or the part, or all bytes from there on.
     pub len: usize,
@@ -22,7 +22,7 @@ pub(crate) struct Reason {
     /// The status of its fault.
     pub status: u32,
     pub refusal: Refusal,
-    /// A text about it, in ASCII.
+    /// A text about it.
     pub text: String,
 }
 
@@ -33,8 +33,6 @@ pub(crate) enum Verdict {
     Accepted(usize),
     /// It is refused.
     Refused(Reason),
-    /// Inputs of its kind aren't explained.
-    Unexplained,
 }
 
 /// Returns which of so many bytes are refused: those from where they aren't well-formed.
@@ -55,8 +53,8 @@ fn put_front(out: &mut [u8], text: &[u8])
     out[..len].copy_from_slice(&text[..len]);
 }
 
-/// Writes how many bytes are accepted, or why the input is refused and where; nothing if inputs of
-/// its kind aren't explained or memory ran out. Returns the call's status.
+/// Writes how many bytes are accepted, or why the input is refused and where; nothing if memory ran
+/// out. Returns the call's status.
 pub(crate) fn tell(
     verdict: Result<Verdict, OutOfMemory>,
     read: &mut usize,
@@ -74,7 +72,6 @@ pub(crate) fn tell(
             return 0;
         }
         Ok(Verdict::Refused(reason)) => reason,
-        Ok(Verdict::Unexplained) => return 3,
         Err(_) => return 2,
     };
     *refusal = reason.refusal;

@@ -1,7 +1,7 @@
 use Rattle.std.proofs.Common.{Option, subst}
 use Rattle.passkey_c.proofs.Explaining.{explains_of}
 use Rattle.passkey_c.proofs.explain.puffgrit_explain.Goals as goal
-use Rattle.passkey_c.specs.Explaining.{Accepts, ExplainsAs, IsUnexplained, Memory, Tells}
+use Rattle.passkey_c.specs.Explaining.{Accepts, ExplainsAs, Memory, Tells}
 use Rattle.passkey_catalogue.specs.Catalogue.{definition}
 use Rattle.passkey_catalogue.specs.declared.kind.Kind.{Kind}
 
@@ -14,4 +14,4 @@ returns-in-Some c =
     let new : Memory = record
     { read = c.tell.new.read; refusal = c.tell.new.refusal; text = c.tell.new.out; len = c.tell.new.len } in
     subst (λ (k : Option Kind). ExplainsAs k input old new c.tell.result) c.in-Some.ensures
-    (explains_of (Accepts d input) (Tells d input) (IsUnexplained d) c.judge.result c.judge.ensures c.tell.ensures)
+    (explains_of (Accepts d input) (Tells d input) c.judge.result c.judge.ensures c.tell.ensures)

@@ -1,0 +1,39 @@
+-- Why a JSON text is refused.
+use Rattle.std.specs.Prelude.{◌≡◌, ◌⊎◌, ℕ, List, length, None, Some}
+use Rattle.passkey_catalogue.specs.Explaining.{ExplainsAs}
+use Rattle.passkey_catalogue.specs.JsonTexts.{any_json_definition}
+use Rattle.passkey_catalogue.specs.declared.any_json_kind.AnyJsonKind.{AnyJsonKind}
+use Rattle.passkey_catalogue.specs.declared.explaining.RefusedJson.{RefusedJson}
+use Rattle.passkey_json.specs.JsonText.{HasNoJson, IsJson}
+use Rattle.passkey_run.specs.declared.fault.RunFault.TheVariants.{BadJson}
+use Rattle.serde_json.specs.Data.{Data}
+use Rattle.passkey_c.specs.Statuses.{json_status, status_of}
+use Rattle.passkey_c.specs.declared.verdict.Refusal.{Refusal}
+
+-- all of so many bytes
+abbrev pub whole : ℕ → Refusal
+whole n = record { offset = 0; len = n }
+
+-- The input is a JSON text, and its value is decoded as this kind.
+pub record AcceptsJson (k : AnyJsonKind) (input : List ℕ) (n : ℕ) : Type 0 where
+  pub value : Data
+  pub reads : IsJson input value
+  pub explains : ExplainsAs (any_json_definition k) value None
+  pub size : n ≡ length input
+
+-- The input is a JSON text, and its value is refused with this fault.
+pub record TellsValue (k : AnyJsonKind) (input : List ℕ) (status : ℕ) (refusal : Refusal) : Type 0 where
+  pub value : Data
+  pub reads : IsJson input value
+  pub refused : RefusedJson
+  pub explains : ExplainsAs (any_json_definition k) value (Some refused)
+  pub fault : status ≡ json_status refused.fault
+  pub bytes : refusal ≡ whole (length input)
+
+-- The input isn't a JSON text.
+abbrev pub TellsNoJson : List ℕ → ℕ → Refusal → Type 0
+TellsNoJson input status refusal =
+    HasNoJson input × (status ≡ status_of BadJson) × (refusal ≡ whole (length input))
+
+abbrev pub TellsJson : AnyJsonKind → List ℕ → ℕ → Refusal → Type 0
+TellsJson k input status refusal = TellsNoJson input status refusal ⊎ TellsValue k input status refusal
