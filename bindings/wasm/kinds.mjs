@@ -18,11 +18,5 @@ export const DECODED = [
   "mc-outputs", "mc-unsigned", "ga-inputs", "ga-outputs", "ga-unsigned",
 ];
 
-/** The kinds of `explain`: those of bytes. */
-export const EXPLAINED = [
-  "cbor", "auth", "mc-request", "mc-response", "ga-request", "ga-response", "info", "hmac-input", "pin-request", "pin-response",
-  "bio-request", "bio-response", "cm-request", "cm-response", "lb-request", "lb-response", "lb-entry", "cfg-request",
-  "cfg-min-pin-length", "cfg-vendor", "cose-key", "info-23", "mc-inputs", "mc-outputs", "mc-unsigned", "ga-inputs", "ga-outputs",
-  "ga-unsigned", "att-packed", "att-tpm", "att-android-key", "att-android-safetynet", "att-fido-u2f", "att-none", "att-apple",
-  "att-compound", "tpm-cert-info", "tpm-pub-area",
-];
+/** The kinds of `explain`: all. */
+export const EXPLAINED = KINDS;
