@@ -481,7 +481,8 @@ def data(module):
             fields.append(f"InData a{at};")
             values.append(f"IN_DATA({to})")
         end = at + 8
-    return ["static const struct {", *textwrap.wrap(" ".join(fields), WIDE, initial_indent="    ", subsequent_indent="    "), "} ALIGNED data = {", *in_rows(values), "};", ""]
+    shape = textwrap.wrap(" ".join(fields), WIDE, initial_indent="    ", subsequent_indent="    ")
+    return ["static const struct {", *shape, "} ALIGNED data = {", *in_rows(values), "};", ""]
 
 
 def write(module):

@@ -1,7 +1,7 @@
 // Messages, decoded, encoded again and explained by proved code (crates/passkey_c) as WebAssembly, beside the calls that look.
 //
-// A kind is one of the names in KINDS; bytes are a Uint8Array, of a JSON text its UTF-8. Bytes after a data item, a message or authenticator
-// data are ignored. What a kind rejects is thrown as a Fault.
+// A kind is one of the names in KINDS; bytes are a Uint8Array, of a JSON text its UTF-8. Bytes after a data item, a message or
+// authenticator data are ignored. What a kind rejects is thrown as a Fault.
 import { DECODED, EXPLAINED, KINDS } from "./kinds.mjs";
 import { instantiate, looks, placing } from "./puffgrit.mjs";
 

@@ -1,5 +1,5 @@
-// node replay_all.mjs MODULE REQUESTS ANSWERS: requests of bindings/c/looks.c to the calls that decode, and the answers of the library in C,
-// which a module with all calls has to give too; and the same by the calls of messages.mjs.
+// node replay_all.mjs MODULE REQUESTS ANSWERS: requests of bindings/c/looks.c to the calls that decode, and the answers of the library in
+// C, which a module with all calls has to give too; and the same by the calls of messages.mjs.
 import { readFileSync } from "node:fs";
 import { DECODED, EXPLAINED, Fault, instantiate, KINDS, loadAll, placing } from "./messages.mjs";
 
@@ -27,9 +27,10 @@ function answer(name, kind, room, bytes) {
 function isSame(name, kind, bytes, { status, words }) {
   const word = KINDS[kind - 1], kinds = { rewrite: KINDS, json: DECODED, explain: EXPLAINED }[name];
   try {
-    const made = name === "rewrite" ? all.rewriteFront(word, bytes) : name === "json" ? all.decodeFront(word, bytes) : all.explain(word, bytes);
-    if (name === "explain" && status >= 16) return made.offset === words[2] && made.length === words[3] && made.explanation.length === words[1];
-    return status <= 1 && (name === "explain" ? made === null : made.read === words[0]);
+    const made = { rewrite: all.rewriteFront, json: all.decodeFront, explain: all.explain }[name](word, bytes);
+    if (name !== "explain") return status <= 1 && made.read === words[0];
+    if (made === null) return status === 0;
+    return status >= 16 && made.offset === words[2] && made.length === words[3] && made.explanation.length === words[1];
   } catch (error) {
     if (error instanceof Fault) return status >= 16 && (error.member === null || error.member === status >> 8);
     return error instanceof RangeError && !kinds.includes(word) && status === 3;
