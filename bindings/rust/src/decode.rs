@@ -160,7 +160,7 @@ mod tests {
         assert_eq!(json(Kind::Info, info, &mut out), Ok(Lengths { read: info.len(), written: text.len() }));
         assert_eq!(out[..text.len()], text[..]);
         let Ok(Verdict::Rejected(told)) = explain(Kind::Request, b"{}", &mut out) else { panic!("accepted") };
-        assert_eq!((told.fault, told.member, told.refusal), (21, 0, Refusal { offset: 0, len: 2 }));
+        assert_eq!((told.fault, told.member, told.refusal), (Fault::Missing, None, Refusal { offset: 0, len: 2 }));
         assert_eq!(told.text, "publicKey is missing");
         assert_eq!(explain(Kind::Info, info, &mut out), Ok(Verdict::Accepted(info.len())));
         assert_eq!(explain(Kind::Auth, &[0; 38], &mut out), Ok(Verdict::Accepted(37)));
