@@ -3,22 +3,22 @@ use passkey_view::is_client_data;
 
 /// The client data of a sign-in with the challenge fb ff bf, in a frame of another origin.
 const FRAMED: &[u8] =
-    b"{\"type\":\"webauthn.get\",\"challenge\":\"-_-_\",\"origin\":\"https://a.example\",\"crossOrigin\":true,\"topOrigin\":\"https://b.example\"}";
+    br#"{"type":"webauthn.get","challenge":"-_-_","origin":"https://a.test","crossOrigin":true,"topOrigin":"https://b.test"}"#;
 
 /// The same in a page of its own, with a challenge of one byte and a member that isn't known here.
 const OWN: &[u8] =
-    b"{\"type\":\"webauthn.get\",\"challenge\":\"-w\",\"origin\":\"a\\\"\\\\\\u001f\",\"crossOrigin\":false,\"other\":1}";
+    br#"{"type":"webauthn.get","challenge":"-w","origin":"a\"\\\u001f","crossOrigin":false,"other":1}"#;
 
 /// What a client of Level 2 writes in a frame of another origin.
 const LEVEL_2: &[u8] =
-    b"{\"type\":\"webauthn.get\",\"challenge\":\"-_8\",\"origin\":\"https://a.example\",\"crossOrigin\":true}";
+    br#"{"type":"webauthn.get","challenge":"-_8","origin":"https://a.test","crossOrigin":true}"#;
 
 fn is_sign_in(text: &[u8], challenge: &[u8], top_origin: Option<&str>, is_required: bool) -> bool {
     is_client_data(
         text,
         "webauthn.get",
         challenge,
-        "https://a.example",
+        "https://a.test",
         top_origin,
         is_required,
     )
@@ -26,7 +26,7 @@ fn is_sign_in(text: &[u8], challenge: &[u8], top_origin: Option<&str>, is_requir
 
 #[test]
 fn client_data_is_what_a_client_writes(rt: HostRuntime) {
-    let top = Some("https://b.example");
+    let top = Some("https://b.test");
     assert!(rt; is_sign_in(FRAMED, &[0xfb, 0xff, 0xbf], top, true));
     assert!(rt; !is_sign_in(FRAMED, &[0xfb, 0xff, 0xbf], None, false));
     assert!(rt; !is_sign_in(FRAMED, &[0xfb, 0xff], top, true));

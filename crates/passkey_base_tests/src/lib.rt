@@ -1,5 +1,6 @@
 //! Tests of `passkey_cbor`, `passkey_bytes`, `passkey_cose`, `passkey_core`, `passkey_view`,
-//! `passkey_webauthn` and `passkey_tpm`: values from the standards, printed texts, and calls that need memory.
+//! `passkey_webauthn` and `passkey_tpm`: values from the standards, printed texts, and calls that need
+//! memory.
 #![tactic(auto)]
 
 #[cfg(test)]
