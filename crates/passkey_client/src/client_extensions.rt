@@ -8,7 +8,7 @@ use crate::{
 use passkey_bytes::{Bytes, List, Text};
 use passkey_json::{
     AuthenticationExtensionsPrfInputs, CredentialPropertiesOutput, EncodeResult, JsonEncoder,
-    JsonFault, Member, PlainJsonRecord, Row,
+    JsonFault, Member, PlainJsonRecord, Row, place,
 };
 use passkey_webauthn::AuthenticationExtensionsPrfOutputs;
 use std::alloc::Global;
@@ -100,24 +100,29 @@ impl PlainJsonRecord for ClientExtensionInputs {
 
     fn put(&mut self, number: u8, member: &mut Member<'_>) -> Result<(), JsonFault> {
         match number {
-            1 => self.appid = member.or_default(None)?,
-            2 => self.appid_exclude = member.or_default(None)?,
-            3 => self.cred_props = member.or_default(None)?,
-            4 => self.prf = member.or_default(None)?,
-            5 => self.large_blob = member.or_default(None)?,
-            6 => self.cred_blob = member.or_default(None)?,
-            7 => self.get_cred_blob = member.or_default(None)?,
-            8 => self.credential_protection_policy = member.or_default(None)?,
-            9 => self.enforce_credential_protection_policy = member.or_default(None)?,
-            10 => self.min_pin_length = member.or_default(None)?,
-            11 => self.pin_complexity_policy = member.or_default(None)?,
-            12 => self.hmac_create_secret = member.or_default(None)?,
-            13 => self.hmac_get_secret = member.or_default(None)?,
-            14 => self.uvm = member.or_default(None)?,
-            15 => self.payment = member.or_default(None)?,
-            _ => {}
+            1 => place(&mut self.appid, member.or_default(None)),
+            2 => place(&mut self.appid_exclude, member.or_default(None)),
+            3 => place(&mut self.cred_props, member.or_default(None)),
+            4 => place(&mut self.prf, member.or_default(None)),
+            5 => place(&mut self.large_blob, member.or_default(None)),
+            6 => place(&mut self.cred_blob, member.or_default(None)),
+            7 => place(&mut self.get_cred_blob, member.or_default(None)),
+            8 => place(
+                &mut self.credential_protection_policy,
+                member.or_default(None),
+            ),
+            9 => place(
+                &mut self.enforce_credential_protection_policy,
+                member.or_default(None),
+            ),
+            10 => place(&mut self.min_pin_length, member.or_default(None)),
+            11 => place(&mut self.pin_complexity_policy, member.or_default(None)),
+            12 => place(&mut self.hmac_create_secret, member.or_default(None)),
+            13 => place(&mut self.hmac_get_secret, member.or_default(None)),
+            14 => place(&mut self.uvm, member.or_default(None)),
+            15 => place(&mut self.payment, member.or_default(None)),
+            _ => Ok(()),
         }
-        Ok(())
     }
 
     fn encode(&self, number: u8, encoder: JsonEncoder) -> EncodeResult {
@@ -222,23 +227,22 @@ impl PlainJsonRecord for ClientExtensionOutputs {
 
     fn put(&mut self, number: u8, member: &mut Member<'_>) -> Result<(), JsonFault> {
         match number {
-            1 => self.appid = member.or_default(None)?,
-            2 => self.appid_exclude = member.or_default(None)?,
-            3 => self.cred_props = member.or_default(None)?,
-            4 => self.prf = member.or_default(None)?,
-            5 => self.large_blob = member.or_default(None)?,
-            6 => self.cred_blob = member.or_default(None)?,
-            7 => self.get_cred_blob = member.or_default(None)?,
-            8 => self.hmac_create_secret = member.or_default(None)?,
-            9 => self.hmac_get_secret = member.or_default(None)?,
-            10 => self.uvm = member.or_default(None)?,
-            11 => self.payment = member.or_default(None)?,
-            12 => self.cred_protect = member.or_default(None)?,
-            13 => self.hmac_secret = member.or_default(None)?,
-            14 => self.min_pin_length = member.or_default(None)?,
-            _ => {}
+            1 => place(&mut self.appid, member.or_default(None)),
+            2 => place(&mut self.appid_exclude, member.or_default(None)),
+            3 => place(&mut self.cred_props, member.or_default(None)),
+            4 => place(&mut self.prf, member.or_default(None)),
+            5 => place(&mut self.large_blob, member.or_default(None)),
+            6 => place(&mut self.cred_blob, member.or_default(None)),
+            7 => place(&mut self.get_cred_blob, member.or_default(None)),
+            8 => place(&mut self.hmac_create_secret, member.or_default(None)),
+            9 => place(&mut self.hmac_get_secret, member.or_default(None)),
+            10 => place(&mut self.uvm, member.or_default(None)),
+            11 => place(&mut self.payment, member.or_default(None)),
+            12 => place(&mut self.cred_protect, member.or_default(None)),
+            13 => place(&mut self.hmac_secret, member.or_default(None)),
+            14 => place(&mut self.min_pin_length, member.or_default(None)),
+            _ => Ok(()),
         }
-        Ok(())
     }
 
     fn encode(&self, number: u8, encoder: JsonEncoder) -> EncodeResult {

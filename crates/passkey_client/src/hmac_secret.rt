@@ -2,7 +2,7 @@
 ghost use Rattle.passkey_client.specs.ClientExtensions.{hmac_get_secret_inputs, hmac_get_secret_outputs};
 
 use passkey_bytes::Bytes;
-use passkey_json::{EncodeResult, JsonEncoder, JsonFault, Member, PlainJsonRecord, Row};
+use passkey_json::{EncodeResult, JsonEncoder, JsonFault, Member, PlainJsonRecord, Row, place};
 use std::alloc::Global;
 
 /// Inputs of the client extension hmacGetSecret (CTAP 2.1, section 12.5). `None` means that the
@@ -35,11 +35,10 @@ impl PlainJsonRecord for HmacGetSecretInputs {
 
     fn put(&mut self, number: u8, member: &mut Member<'_>) -> Result<(), JsonFault> {
         match number {
-            1 => self.salt1 = member.required()?,
-            2 => self.salt2 = member.or_default(None)?,
-            _ => {}
+            1 => place(&mut self.salt1, member.required()),
+            2 => place(&mut self.salt2, member.or_default(None)),
+            _ => Ok(()),
         }
-        Ok(())
     }
 
     fn encode(&self, number: u8, encoder: JsonEncoder) -> EncodeResult {
@@ -77,11 +76,10 @@ impl PlainJsonRecord for HmacGetSecretOutputs {
 
     fn put(&mut self, number: u8, member: &mut Member<'_>) -> Result<(), JsonFault> {
         match number {
-            1 => self.output1 = member.required()?,
-            2 => self.output2 = member.or_default(None)?,
-            _ => {}
+            1 => place(&mut self.output1, member.required()),
+            2 => place(&mut self.output2, member.or_default(None)),
+            _ => Ok(()),
         }
-        Ok(())
     }
 
     fn encode(&self, number: u8, encoder: JsonEncoder) -> EncodeResult {

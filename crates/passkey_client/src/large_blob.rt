@@ -2,7 +2,7 @@
 ghost use Rattle.passkey_client.specs.ClientExtensions.{large_blob_inputs, large_blob_outputs};
 
 use passkey_bytes::{Bytes, Text};
-use passkey_json::{EncodeResult, JsonEncoder, JsonFault, Member, PlainJsonRecord, Row};
+use passkey_json::{EncodeResult, JsonEncoder, JsonFault, Member, PlainJsonRecord, Row, place};
 use std::alloc::Global;
 
 /// Inputs of the client extension largeBlob (WebAuthn Level 3, section 10.1.5). `None` means that
@@ -38,12 +38,11 @@ impl PlainJsonRecord for LargeBlobInputs {
 
     fn put(&mut self, number: u8, member: &mut Member<'_>) -> Result<(), JsonFault> {
         match number {
-            1 => self.support = member.or_default(None)?,
-            2 => self.read = member.or_default(None)?,
-            3 => self.write = member.or_default(None)?,
-            _ => {}
+            1 => place(&mut self.support, member.or_default(None)),
+            2 => place(&mut self.read, member.or_default(None)),
+            3 => place(&mut self.write, member.or_default(None)),
+            _ => Ok(()),
         }
-        Ok(())
     }
 
     fn encode(&self, number: u8, encoder: JsonEncoder) -> EncodeResult {
@@ -89,12 +88,11 @@ impl PlainJsonRecord for LargeBlobOutputs {
 
     fn put(&mut self, number: u8, member: &mut Member<'_>) -> Result<(), JsonFault> {
         match number {
-            1 => self.supported = member.or_default(None)?,
-            2 => self.blob = member.or_default(None)?,
-            3 => self.written = member.or_default(None)?,
-            _ => {}
+            1 => place(&mut self.supported, member.or_default(None)),
+            2 => place(&mut self.blob, member.or_default(None)),
+            3 => place(&mut self.written, member.or_default(None)),
+            _ => Ok(()),
         }
-        Ok(())
     }
 
     fn encode(&self, number: u8, encoder: JsonEncoder) -> EncodeResult {

@@ -3,7 +3,7 @@ ghost use Rattle.passkey_client.specs.Mediated.{mediated_options};
 
 use crate::CredentialMediationRequirement;
 use passkey_bytes::Text;
-use passkey_json::{EncodeResult, JsonEncoder, JsonFault, Member, PlainJsonRecord, Row};
+use passkey_json::{EncodeResult, JsonEncoder, JsonFault, Member, PlainJsonRecord, Row, place};
 use std::alloc::Global;
 
 /// The argument of `navigator.credentials.create()` or `get()`: the options of a ceremony, and how
@@ -42,12 +42,11 @@ impl<O: PlainJsonRecord> PlainJsonRecord for MediatedOptions<O> {
 
     fn put(&mut self, number: u8, member: &mut Member<'_>) -> Result<(), JsonFault> {
         match number {
-            1 => self.public_key = member.required()?,
-            2 => self.mediation = member.or_default(None)?,
-            3 => self.ui_mode = member.or_default(None)?,
-            _ => {}
+            1 => place(&mut self.public_key, member.required()),
+            2 => place(&mut self.mediation, member.or_default(None)),
+            3 => place(&mut self.ui_mode, member.or_default(None)),
+            _ => Ok(()),
         }
-        Ok(())
     }
 
     fn encode(&self, number: u8, encoder: JsonEncoder) -> EncodeResult {

@@ -3,7 +3,7 @@ ghost use Rattle.std.specs.Prelude.{◌≡◌, IfOk};
 ghost use Rattle.passkey_client.specs.Payment.{browser_bound_signature, currency_amount, payment_entity_logo, payment_inputs, payment_instrument, payment_outputs};
 
 use passkey_bytes::{Bytes, List, Text};
-use passkey_json::{EncodeResult, JsonEncoder, JsonFault, Member, PlainJsonRecord, Row};
+use passkey_json::{EncodeResult, JsonEncoder, JsonFault, Member, PlainJsonRecord, Row, place};
 use passkey_memory::OutOfMemory;
 use passkey_webauthn::PublicKeyCredentialParameters;
 use std::alloc::{AllocError, Global};
@@ -46,11 +46,10 @@ impl PlainJsonRecord for PaymentCurrencyAmount {
 
     fn put(&mut self, number: u8, member: &mut Member<'_>) -> Result<(), JsonFault> {
         match number {
-            1 => self.currency = member.required()?,
-            2 => self.value = member.required()?,
-            _ => {}
+            1 => place(&mut self.currency, member.required()),
+            2 => place(&mut self.value, member.required()),
+            _ => Ok(()),
         }
-        Ok(())
     }
 
     fn encode(&self, number: u8, encoder: JsonEncoder) -> EncodeResult {
@@ -126,11 +125,10 @@ impl PlainJsonRecord for PaymentEntityLogo {
 
     fn put(&mut self, number: u8, member: &mut Member<'_>) -> Result<(), JsonFault> {
         match number {
-            1 => self.url = member.required()?,
-            2 => self.label = member.required()?,
-            _ => {}
+            1 => place(&mut self.url, member.required()),
+            2 => place(&mut self.label, member.required()),
+            _ => Ok(()),
         }
-        Ok(())
     }
 
     fn encode(&self, number: u8, encoder: JsonEncoder) -> EncodeResult {
@@ -175,13 +173,12 @@ impl PlainJsonRecord for PaymentCredentialInstrument {
 
     fn put(&mut self, number: u8, member: &mut Member<'_>) -> Result<(), JsonFault> {
         match number {
-            1 => self.display_name = member.required()?,
-            2 => self.icon = member.required()?,
-            3 => self.icon_must_be_shown = member.or_default(true)?,
-            4 => self.details = member.or_default(None)?,
-            _ => {}
+            1 => place(&mut self.display_name, member.required()),
+            2 => place(&mut self.icon, member.required()),
+            3 => place(&mut self.icon_must_be_shown, member.or_default(true)),
+            4 => place(&mut self.details, member.or_default(None)),
+            _ => Ok(()),
         }
-        Ok(())
     }
 
     fn encode(&self, number: u8, encoder: JsonEncoder) -> EncodeResult {
@@ -253,18 +250,20 @@ impl PlainJsonRecord for PaymentInputs {
 
     fn put(&mut self, number: u8, member: &mut Member<'_>) -> Result<(), JsonFault> {
         match number {
-            1 => self.is_payment = member.or_default(None)?,
-            2 => self.rp_id = member.or_default(None)?,
-            3 => self.top_origin = member.or_default(None)?,
-            4 => self.payee_name = member.or_default(None)?,
-            5 => self.payee_origin = member.or_default(None)?,
-            6 => self.total = member.or_default(None)?,
-            7 => self.instrument = member.or_default(None)?,
-            8 => self.browser_bound_pub_key_cred_params = member.accepted_list()?,
-            9 => self.payment_entities_logos = member.or_default(None)?,
-            _ => {}
+            1 => place(&mut self.is_payment, member.or_default(None)),
+            2 => place(&mut self.rp_id, member.or_default(None)),
+            3 => place(&mut self.top_origin, member.or_default(None)),
+            4 => place(&mut self.payee_name, member.or_default(None)),
+            5 => place(&mut self.payee_origin, member.or_default(None)),
+            6 => place(&mut self.total, member.or_default(None)),
+            7 => place(&mut self.instrument, member.or_default(None)),
+            8 => place(
+                &mut self.browser_bound_pub_key_cred_params,
+                member.accepted_list(),
+            ),
+            9 => place(&mut self.payment_entities_logos, member.or_default(None)),
+            _ => Ok(()),
         }
-        Ok(())
     }
 
     fn encode(&self, number: u8, encoder: JsonEncoder) -> EncodeResult {

@@ -8,6 +8,7 @@ use crate::payment::{
 use passkey_bytes::{Bytes, List, Text};
 use passkey_json::{
     BytesForm, EncodeResult, JsonEncoder, JsonFault, Member, Object, PlainJsonRecord, Row, ToJson,
+    place,
 };
 use passkey_memory::OutOfMemory;
 use passkey_webauthn_json::client_data::{ClientDataExtra, ClientDataType};
@@ -85,17 +86,16 @@ impl PlainJsonRecord for AdditionalPaymentData {
 
     fn put(&mut self, number: u8, member: &mut Member<'_>) -> Result<(), JsonFault> {
         match number {
-            1 => self.rp_id = member.required()?,
-            2 => self.top_origin = member.required()?,
-            3 => self.payee_name = member.or_default(None)?,
-            4 => self.payee_origin = member.or_default(None)?,
-            5 => self.total = member.required()?,
-            6 => self.instrument = member.required()?,
-            7 => self.payment_entities_logos = member.or_default(None)?,
-            8 => self.browser_bound_public_key = member.or_default(None)?,
-            _ => {}
+            1 => place(&mut self.rp_id, member.required()),
+            2 => place(&mut self.top_origin, member.required()),
+            3 => place(&mut self.payee_name, member.or_default(None)),
+            4 => place(&mut self.payee_origin, member.or_default(None)),
+            5 => place(&mut self.total, member.required()),
+            6 => place(&mut self.instrument, member.required()),
+            7 => place(&mut self.payment_entities_logos, member.or_default(None)),
+            8 => place(&mut self.browser_bound_public_key, member.or_default(None)),
+            _ => Ok(()),
         }
-        Ok(())
     }
 
     fn encode(&self, number: u8, encoder: JsonEncoder) -> EncodeResult {

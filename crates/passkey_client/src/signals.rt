@@ -2,7 +2,7 @@
 ghost use Rattle.passkey_client.specs.Signals.{all_accepted_credentials, current_user_details, unknown_credential};
 
 use passkey_bytes::{Bytes, List, Text};
-use passkey_json::{EncodeResult, JsonEncoder, JsonFault, Member, PlainJsonRecord, Row};
+use passkey_json::{EncodeResult, JsonEncoder, JsonFault, Member, PlainJsonRecord, Row, place};
 use std::alloc::Global;
 
 /// The argument of `PublicKeyCredential.signalUnknownCredential()`: a credential that the relying
@@ -31,11 +31,10 @@ impl PlainJsonRecord for UnknownCredentialOptions {
 
     fn put(&mut self, number: u8, member: &mut Member<'_>) -> Result<(), JsonFault> {
         match number {
-            1 => self.rp_id = member.required()?,
-            2 => self.credential_id = member.required()?,
-            _ => {}
+            1 => place(&mut self.rp_id, member.required()),
+            2 => place(&mut self.credential_id, member.required()),
+            _ => Ok(()),
         }
-        Ok(())
     }
 
     fn encode(&self, number: u8, encoder: JsonEncoder) -> EncodeResult {
@@ -80,12 +79,11 @@ impl PlainJsonRecord for AllAcceptedCredentialsOptions {
 
     fn put(&mut self, number: u8, member: &mut Member<'_>) -> Result<(), JsonFault> {
         match number {
-            1 => self.rp_id = member.required()?,
-            2 => self.user_id = member.required()?,
-            3 => self.all_accepted_credential_ids = member.required()?,
-            _ => {}
+            1 => place(&mut self.rp_id, member.required()),
+            2 => place(&mut self.user_id, member.required()),
+            3 => place(&mut self.all_accepted_credential_ids, member.required()),
+            _ => Ok(()),
         }
-        Ok(())
     }
 
     fn encode(&self, number: u8, encoder: JsonEncoder) -> EncodeResult {
@@ -135,13 +133,12 @@ impl PlainJsonRecord for CurrentUserDetailsOptions {
 
     fn put(&mut self, number: u8, member: &mut Member<'_>) -> Result<(), JsonFault> {
         match number {
-            1 => self.rp_id = member.required()?,
-            2 => self.user_id = member.required()?,
-            3 => self.name = member.required()?,
-            4 => self.display_name = member.required()?,
-            _ => {}
+            1 => place(&mut self.rp_id, member.required()),
+            2 => place(&mut self.user_id, member.required()),
+            3 => place(&mut self.name, member.required()),
+            4 => place(&mut self.display_name, member.required()),
+            _ => Ok(()),
         }
-        Ok(())
     }
 
     fn encode(&self, number: u8, encoder: JsonEncoder) -> EncodeResult {
