@@ -26,7 +26,7 @@
 #include <stdint.h>
 
 /* The version of this interface, which puffgrit_version returns of the library. */
-#define PUFFGRIT_VERSION 2u
+#define PUFFGRIT_VERSION 3u
 
 #ifdef __cplusplus
 extern "C" {
@@ -182,17 +182,18 @@ typedef struct {
    WebAuthn Level 3, sections 5 to 8.) */
 uint32_t puffgrit_rewrite(uint32_t kind, const uint8_t *input, size_t input_len, size_t *read, uint8_t *out, size_t out_len, size_t *len);
 
-/* The version of this interface: 2. A call or a struct that changes raises it. */
+/* The version of this interface: 3. A call or a struct that changes raises it. */
 uint32_t puffgrit_version(void);
 
 /* Decodes the input as this kind, and writes what is in it as compact JSON to the beginning of out, and the JSON's
-   length to len; and to read how many bytes of the input were decoded, as puffgrit_rewrite does. The members of messages
-   and of keys, and the parts of authenticator data, are written by their names, byte strings in base64url without
-   padding, AAGUIDs as UUIDs, algorithms and flags by their names. A member that the message's table hasn't is written
-   under its key, as it is; keys that are no text, floats, tags and simple values are strings in diagnostic notation (RFC
-   8949, section 8). Of a JSON text it writes what puffgrit_rewrite does. The kinds are all but attestation statements
-   and structures of a TPM. Returns what puffgrit_rewrite returns, with the same faults, and leaves out, len and read as
-   it does. (CTAP 2.1, section 6; WebAuthn Level 3, section 6.1.) */
+   length to len; and to read how many bytes of the input were decoded, as puffgrit_rewrite does. The members of
+   messages, the parts of authenticator data and the parameters of keys, also of those inside messages, are written by
+   their names, byte strings in base64url without padding, AAGUIDs as UUIDs, algorithms and flags by their names. What no
+   table divides, such as an attestation statement, is written by its elements and members, and a member that the
+   message's table hasn't under its key; keys that are no text, floats, tags and simple values are strings in diagnostic
+   notation (RFC 8949, section 8). It is the JSON of passkey_inspect. Of a JSON text it writes what puffgrit_rewrite
+   does. The kinds are all but attestation statements and structures of a TPM. Returns what puffgrit_rewrite returns,
+   with the same faults, and leaves out, len and read as it does. (CTAP 2.1, section 6; WebAuthn Level 3, section 6.1.) */
 uint32_t puffgrit_json(uint32_t kind, const uint8_t *input, size_t input_len, size_t *read, uint8_t *out, size_t out_len, size_t *len);
 
 /* Explains why the input is refused as this kind. Returns PUFFGRIT_OK if it is accepted, with how many of its bytes were

@@ -2,7 +2,7 @@
 (WebAuthn Level 3, section 6.1), looked at in place, by proved code.
 
 The library is the one that the environment variable PUFFGRIT_LIBRARY names, or else libpuffgrit.so beside this file, or else the
-system's libpuffgrit.so.2. A call lets other threads run, so its bytes have to be `bytes`, which no thread can change.
+system's libpuffgrit.so.3. A call lets other threads run, so its bytes have to be `bytes`, which no thread can change.
 """
 
 from __future__ import annotations
@@ -267,8 +267,8 @@ def decode(kind: str, data: bytes) -> Any:
     """What is in the data, which is of the kind (one of `DECODED`): a message, a key, authenticator data or a record
     as a dictionary.
 
-    Members have their names, byte strings are base64url without padding, AAGUIDs are UUIDs, and algorithms have their names. Raises
-    what `rewrite` raises.
+    Members have their names, also those of authenticator data, keys and attestation statements inside a message; byte strings are
+    base64url without padding, AAGUIDs are UUIDs, and algorithms and flags have their names. Raises what `rewrite` raises.
     """
     return decode_front(kind, data)[0]
 

@@ -7,7 +7,7 @@ import os
 from pathlib import Path
 
 #: The version of the interface that this package knows, which is also in the name of the system's library.
-VERSION = 2
+VERSION = 3
 
 
 class Item(ctypes.Structure):

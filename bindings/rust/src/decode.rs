@@ -83,7 +83,8 @@ fn lengths(status: u32, read: usize, len: usize) -> Result<Lengths, Error> {
 }
 
 /// Decodes the input as the kind, and writes what is in it as compact JSON to the beginning of the
-/// output: members by their names, byte strings in base64url without padding.
+/// output: members by their names, also those of authenticator data, keys and attestation statements
+/// inside a message, and byte strings in base64url without padding.
 pub fn json(kind: Kind, input: &[u8], out: &mut [u8]) -> Result<Lengths, Error> {
     let (mut read, mut len) = (0, 0);
     let (given, start, room) = (input.as_ptr(), out.as_mut_ptr(), out.len());

@@ -35,7 +35,7 @@ pub use item::{Elements, Item, Type};
 pub use kind::Kind;
 
 /// The version of the interface, which is that of puffgrit.h.
-pub const VERSION: u32 = 2;
+pub const VERSION: u32 = 3;
 
 extern "C" {
     fn puffgrit_item_len(bytes: *const u8, len: usize) -> usize;

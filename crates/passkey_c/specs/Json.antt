@@ -11,6 +11,7 @@ use Rattle.passkey_kinds.specs.Record.{Fields, read_item}
 use Rattle.passkey_kinds.specs.RecordReading.{shape_of}
 use Rattle.passkey_kinds.specs.declared.wanted.Wanted.TheVariants as wanted
 use Rattle.passkey_report.specs.Json.{json_text}
+use Rattle.passkey_report.specs.Opened.{opened}
 use Rattle.passkey_run.specs.Definition.{Definition, authenticator, item, message, other}
 use Rattle.passkey_run.specs.Rewriting.{IsRefusalAs}
 use Rattle.passkey_run.specs.declared.fault.RunFault.{RunFault}
@@ -22,10 +23,11 @@ use Rattle.passkey_catalogue.specs.declared.form.Form.{Form}
 use Rattle.passkey_catalogue.specs.declared.form.Form.TheVariants as form
 use Rattle.passkey_catalogue.specs.declared.kind.Kind.{Kind}
 
--- A message begins the bytes, and the text is the JSON of its data item, as the message's table describes it.
+-- A message begins the bytes, and the text is the JSON of its data item, as the message's table describes it, with
+-- authenticator data and keys opened.
 abbrev pub IsMessageJson : {P : Type 0} → Fields P → List ℕ → List ℕ → ℕ → Type 0
 IsMessageJson t bytes text read = Begins bytes (λ i len. (read ≡ len) × (is_ok (read_item t i) ≡ true)
-    × (text ≡ json_text (described (shape_of t) i)))
+    × (text ≡ json_text (opened (described (shape_of t) i))))
 
 -- A data item begins the bytes, and the text is its JSON, as nothing is known of it.
 abbrev pub IsItemJson : List ℕ → List ℕ → ℕ → Type 0

@@ -13,11 +13,11 @@ use passkey_catalogue::{Form, Kind, encode_form, visit};
 use passkey_cbor::{CborError, Value};
 use passkey_core::AuthenticatorData;
 use passkey_cose::CoseKey;
-use passkey_explain::{Description, describe, describe_data, describe_item, describe_key};
+use passkey_explain::{Description, describe_data, describe_item, describe_key};
 use passkey_explain_data::data_len;
 use passkey_kinds::{Fault, Message};
 use passkey_memory::OutOfMemory;
-use passkey_report::json_of;
+use passkey_report::{describe_opened, json_of};
 use passkey_run::{RunFault, Visitor};
 use std::alloc::Global;
 
@@ -41,7 +41,7 @@ fn message_json<M: Message>(alloc: Global, input: &[u8]) -> Result<(Vec<u8>, usi
         Err(_) => return Err(RunFault::MessageRefused(Fault::DecodeFailed)),
     };
     M::from_value(alloc, &value)?;
-    let description = describe::<M>(alloc, &value);
+    let description = describe_opened::<M>(alloc, &value);
     drop(value);
     Ok((description_json(alloc, description?)?, len))
 }
@@ -135,12 +135,13 @@ fn json_as(alloc: Global, kind: Kind, input: &[u8]) -> Result<(Vec<u8>, usize), 
 
 /// Decodes the input as this kind, and writes what is in it as compact JSON to the beginning of
 /// `out`, and the JSON's length to `len`; and to `read` how many bytes of the input were decoded, as
-/// puffgrit_rewrite does. The members of messages and of keys, and the parts of authenticator data, are
-/// written by their names, byte strings in base64url without padding, AAGUIDs as UUIDs, algorithms and
-/// flags by their names. A member that the message's table hasn't is written under its key, as it is;
-/// keys that are no text, floats, tags and simple values are strings in diagnostic notation (RFC 8949,
-/// section 8). Of a JSON text it writes what puffgrit_rewrite does. The kinds are all but attestation
-/// statements and structures of a TPM.
+/// puffgrit_rewrite does. The members of messages, the parts of authenticator data and the parameters of
+/// keys, also of those inside messages, are written by their names, byte strings in base64url without
+/// padding, AAGUIDs as UUIDs, algorithms and flags by their names. What no table divides, such as an
+/// attestation statement, is written by its elements and members, and a member that the message's table
+/// hasn't under its key; keys that are no text, floats, tags and simple values are strings in diagnostic
+/// notation (RFC 8949, section 8). It is the JSON of passkey_inspect. Of a JSON text it writes what
+/// puffgrit_rewrite does. The kinds are all but attestation statements and structures of a TPM.
 ///
 /// Returns what puffgrit_rewrite returns, with the same faults, and leaves `out`, `len` and `read` as
 /// it does. (CTAP 2.1, section 6; WebAuthn Level 3, section 6.1.)

@@ -18,10 +18,10 @@ pub use json::puffgrit_json;
 pub use rewrite::puffgrit_rewrite;
 pub use verdict::Refusal;
 
-/// The version of this interface: 2. A call or a struct that changes raises it.
+/// The version of this interface: 3. A call or a struct that changes raises it.
 #[unsafe(no_mangle)]
 pub extern "C" fn puffgrit_version() -> u32
-    ensures { result ≡ 2 }
+    ensures { result ≡ 3 }
 {
-    2
+    3
 }

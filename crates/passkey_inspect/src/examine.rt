@@ -10,12 +10,12 @@ use passkey_catalogue::{Form, visit};
 use passkey_cbor::Value;
 use passkey_core::AuthenticatorData;
 use passkey_explain::{
-    Description, Extent, describe, describe_data, describe_item, describe_key, dropped, explain,
+    Description, Extent, describe_data, describe_item, describe_key, dropped, explain,
 };
 use passkey_explain_data::{explain_data, explain_key, explain_statement};
 use passkey_kinds::Message;
 use passkey_memory::OutOfMemory;
-use passkey_report::{left_out_text, opened};
+use passkey_report::{describe_opened, left_out_text};
 use passkey_run::Visitor;
 use std::alloc::Global;
 
@@ -105,14 +105,6 @@ fn left_out<M: Message>(alloc: Global, bytes: &[u8]) -> Result<String, OutOfMemo
     }
 }
 
-/// Describes what is in a message, with authenticator data and keys opened.
-fn described<M: Message>(alloc: Global, value: &Value) -> Result<Description, OutOfMemory> {
-    let description = describe::<M>(alloc, value)?;
-    let opened = opened(alloc, &description);
-    drop(description);
-    opened
-}
-
 /// Examines a message. No bytes are an empty map, as in the body of a request or a response
 /// (CTAP 2.1, section 8).
 fn examine_message<M: Message>(alloc: Global, bytes: &[u8]) -> Result<Examined, OutOfMemory> {
@@ -124,7 +116,7 @@ fn examine_message<M: Message>(alloc: Global, bytes: &[u8]) -> Result<Examined, 
     let left_out = left_out::<M>(alloc, bytes)?;
     match Value::from_slice(alloc, bytes) {
         Ok((value, len)) => {
-            let description = described::<M>(alloc, &value);
+            let description = describe_opened::<M>(alloc, &value);
             drop(value);
             Ok(Examined::Accepted(Contents {
                 description: description?,

@@ -7,7 +7,7 @@ mod leaf;
 mod page;
 mod report;
 
-pub use inside::opened;
+pub use inside::describe_opened;
 pub use json::json_of;
 pub use page::{page_of, refusal_page};
 pub use report::{left_out_text, report_of};

@@ -1,4 +1,4 @@
-use Rattle.std.proofs.Common.{arith, lit<, sym, ap, ◌≡◌, ◌∙◌, ◌++◌, ◌∷◌, [], List, ℕ, map, string_bytes}
+use Rattle.std.proofs.Common.{arith, lit<, sym, ap, ◌∙◌, ◌++◌, [], List, ℕ, map, string_bytes}
 use Rattle.std.proofs.lemmas.Str.{encode_ascii}
 use Rattle.passkey_cbor.specs.View.{item_of}
 use Rattle.passkey_explain.specs.Described.{Described, described_of, label_of, labelled, parts_from, element, key}

@@ -1,12 +1,10 @@
-use Rattle.std.proofs.Common.{◌≡◌, ◌∙◌, ap, refl, Bool, true, false, if◌then◌else◌, Option, Some, None, w64, to_z, of_z, SFits, rules}
+use Rattle.std.proofs.Common.{◌≡◌, ◌∙◌, ap, Bool, true, false, if◌then◌else◌, Option, Some, None, w64, to_z, of_z, SFits, rules}
 use Rattle.std.proofs.Math.Facts.{to_z-of_z}
-use Rattle.std.specs.Prelude.{ℤ, pos, negsuc}
-use Rattle.std.proofs.lemmas.Bool.{ltb-true}
+use Rattle.std.specs.Prelude.{ℤ}
 use Rattle.passkey_cbor.proofs.Binds.{some_is}
 use Rattle.passkey_iana.specs.Iana.{algorithm_named}
 use Rattle.passkey_iana.specs.Signed64.{is_signed_64}
 use Rattle.passkey_iana.specs.declared.algorithm.Algorithm.{Algorithm}
-use Rattle.passkey_report.specs.Json.{algorithm_in}
 use Rattle.passkey_report.proofs.leaf.algorithm_of.Goals as goal
 
 named_in : (z n : ℤ) (found : Option Algorithm) (b : Bool) → SFits w64 n → Some n ≡ (if b then Some z else None)
