@@ -84,7 +84,7 @@ pub use Rattle.std.proofs.lemmas.Bool.{and_parts, leb-true, true≢false, cases_
 pub use Rattle.std.proofs.lemmas.Cmp.{nat_list_cmp_total}
 pub use Rattle.std.proofs.lemmas.Fn.{always_returns_same}
 pub use Rattle.std.proofs.lemmas.List.Elements.{All-head, All-tail, All-from_recursion, recursion_from_All, filter_map-append}
-pub use Rattle.std.proofs.lemmas.List.{length-map, length-append, length-take, append-nil, drop_all, take_more_set, map_push, get_or-set_same, get_or-set_other, get_or-map, get_or-replicate, get_or_past, length-replicate, drop-map}
+pub use Rattle.std.proofs.lemmas.List.{length-map, length-append, length-take, append-nil, drop_all, take_more_set, map_push, get_or-set_same, get_or-set_other, get_or-map, get_or-replicate, get_or_past, length-replicate}
 pub use Rattle.std.proofs.lemmas.Option.{slice_get-get_or, slice_get_past}
 pub use Rattle.std.proofs.lemmas.Result.{err_from_is_err_and}
 pub use Rattle.std.specs.Cmp.Lexicographic.{slice_cmp, bytes_decides, texts_ties}

@@ -37,20 +37,11 @@ pub row_of_name : (s : List ℕ) (es : List Entry)
 row_of_name s es = row_within es (position_or_len (λ n. bytes_eq n s) (both_names es)) (length (both_names es)) (as_many es)
     ∙ ap row_or_unknown (at_either s (λ e. e.name) (λ e. e.other) es es)
 
--- ---- a row that is found among the last ones
+-- ---- a row at an index
 
 found_number : (n m : ℕ) (es : List Entry) → row_or_unknown (find (λ (e : Entry). e.number == n) es) ≡ row m → n ≡ m
 found_number n m [] h = absurd cc
 found_number n m (e ∷ es) h = grind (arith, eqb-true, found_number n m es)
-
-pub found_behind : (n m k : ℕ) (es : List Entry)
-    → row_or_unknown (find (λ (e : Entry). e.number == n) (drop k es)) ≡ row m
-    → row_or_unknown (find (λ (e : Entry). e.number == n) es) ≡ row m
-found_behind n m zero es h = h
-found_behind n m (suc k) [] h = h
-found_behind n m (suc k) (e ∷ es) h = grind (arith, eqb-true, found_number, found_behind n m k es h)
-
--- ---- a row at an index
 
 pub found_at : (n k : ℕ) (rows : List Row) (r : Row) → k < length rows → r ≡ get_or rows k r
     → (entry_of r).number ≡ n

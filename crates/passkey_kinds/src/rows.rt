@@ -90,16 +90,15 @@ fn with_number(rows: &[Row], number: u8) -> Named
     }
 }
 
-// Not inlined, since in most tables a row's index is its number, less one.
+// Not inlined, since in most tables a row's index is its number, less one. That of
+// authenticatorGetInfo leaves two numbers out.
 #[inline(never)]
 fn with_number_near(rows: &[Row], number: u8) -> Named
     ensures { named_as result ≡ row_or_unknown (find (λ e. e.number == number) (map entry_of rows.now)) }
 {
-    let near = usize::from(number).saturating_sub(4).min(rows.len());
-    let (_, rest) = rows.split_at(near);
-    match numbered(rest, number) {
-        Named::Row(number) => Named::Row(number),
-        Named::Unknown => numbered(rows, number),
+    match rows.get(usize::from(number).saturating_sub(3)) {
+        Some(row) if row.number() == number => Named::Row(number),
+        _ => numbered(rows, number),
     }
 }
 
