@@ -14,12 +14,12 @@ ROOT = Path(__file__).resolve().parents[3]
 
 class Puffgrit(unittest.TestCase):
     def test_version(self):
-        self.assertEqual(puffgrit.version(), 2)
+        self.assertEqual(puffgrit.version(), 3)
 
     def test_library(self):
         # the library as one of another version, a file that isn't there, and another library
-        with mock.patch.dict(os.environ, PUFFGRIT_LIBRARY=puffgrit._library._name), mock.patch.object(_c, "VERSION", 3):
-            self.assertRaisesRegex(ImportError, "has version 2 .* version 3 is needed", _c.load)
+        with mock.patch.dict(os.environ, PUFFGRIT_LIBRARY=puffgrit._library._name), mock.patch.object(_c, "VERSION", 4):
+            self.assertRaisesRegex(ImportError, "has version 3 .* version 4 is needed", _c.load)
         for place in ["/nowhere/libpuffgrit.so.3", "libc.so.6"]:
             with mock.patch.dict(os.environ, PUFFGRIT_LIBRARY=place):
                 self.assertRaisesRegex(ImportError, "name it in PUFFGRIT_LIBRARY", _c.load)
