@@ -191,7 +191,7 @@ uint32_t puffgrit_version(void);
    their names, byte strings in base64url without padding, AAGUIDs as UUIDs, algorithms and flags by their names. What no
    table divides, such as an attestation statement, is written by its elements and members, and a member that the
    message's table hasn't under its key; keys that are no text, floats, tags and simple values are strings in diagnostic
-   notation (RFC 8949, section 8). It is the JSON of passkey_inspect. Of a JSON text it writes what puffgrit_rewrite
+   notation (RFC 8949, section 8). passkey_inspect --json prints the same. Of a JSON text it writes what puffgrit_rewrite
    does. The kinds are all but attestation statements and structures of a TPM. Returns what puffgrit_rewrite returns,
    with the same faults, and leaves out, len and read as it does. (CTAP 2.1, section 6; WebAuthn Level 3, section 6.1.) */
 uint32_t puffgrit_json(uint32_t kind, const uint8_t *input, size_t input_len, size_t *read, uint8_t *out, size_t out_len, size_t *len);

@@ -21,16 +21,13 @@ is_data_wanted _ = false
 abbrev pub data_in : Wanted → Item → Option DataParts
 data_in w i = if is_data_wanted w then data_from i else None
 
--- an array or a map by its elements or members, and any other item as a whole
-abbrev pub divided : Wanted → Item → Described
-divided w i = described_item w i
-
 abbrev pub data_or : Option DataParts → Described → Described
 data_or (Some d) other = described_data d
 data_or None other = other
 
+-- an array or a map that no table divides by its elements or members, and any other item as a whole
 abbrev pub opened_leaf : Wanted → Item → Described
-opened_leaf w i = data_or (data_in w i) (divided w i)
+opened_leaf w i = data_or (data_in w i) (described_item w i)
 
 -- the members that are COSE keys, which a table keeps as a whole (CTAP 2.1, sections 6.5.5, 6.8 and 12.5)
 abbrev pub is_key_name : Label → Bool

@@ -4,8 +4,9 @@ ghost use Rattle.passkey_cbor.specs.View.{item_of};
 ghost use Rattle.passkey_core.specs.DataViews.{data_parts};
 ghost use Rattle.passkey_explain.specs.Described as spec;
 ghost use Rattle.passkey_explain.specs.Described.{described, described_of, label_of, labelled};
+ghost use Rattle.passkey_explain.specs.DescribedData.{described_item};
 ghost use Rattle.passkey_kinds.specs.RecordReading.{shape_of};
-ghost use Rattle.passkey_report.specs.Opened.{as_map, data_in, divided, is_key_name, item_at, key_in, opened, opened_leaf, opened_part};
+ghost use Rattle.passkey_report.specs.Opened.{as_map, data_in, is_key_name, item_at, key_in, opened, opened_leaf, opened_part};
 
 use passkey_cbor::Value;
 use passkey_core::AuthenticatorData;
@@ -36,7 +37,7 @@ fn data_in(
 
 /// Returns an array or a map by its elements or members, and any other item as a whole.
 fn divided(alloc: Global, wanted: Wanted, value: &Value) -> Result<Description, OutOfMemory>
-    ensures { IfOk result (λ d. described_of d ≡ divided wanted (item_of value.now)) }
+    ensures { IfOk result (λ d. described_of d ≡ described_item wanted (item_of value.now)) }
 {
     match value {
         Value::Array(_) => describe_item(alloc, value),

@@ -30,7 +30,8 @@ opened-returns-in_ok-open_members-in-Record t c =
     (λ p. labelled (label_of p.0) (described_of p.1)) ps))) (sym c.deref-in-Record.ensures.value) in
     described_of-Record c.in_ok-open_members-in-Record.field-0
     ∙ ap (λ (ps : List Part). parts record_of_members (parts_from ps)) c.in_ok-open_members-in-Record.ensures
-    ∙ ap (parts record_of_members) (sym (parts_opened (λ (p : FieldName × Description). labelled (label_of p.0) (described_of p.1)) fields))
+    ∙ ap (parts record_of_members)
+    (sym (parts_opened (λ (p : FieldName × Description). labelled (label_of p.0) (described_of p.1)) fields))
     ∙ sym (ap opened is)
 
 pub opened-returns-after-loop-key : goal.opened-returns-after-loop-key
@@ -44,5 +45,6 @@ opened-returns-after-loop-key t c =
     (take_all c.loop-key.key-index items (omega arith)) in
     described_of-Map c.loop-key.parts
     ∙ ap (λ (ps : List Part). parts map_of (parts_from ps)) done
-    ∙ ap (parts map_of) (sym (parts_opened (λ (p : Value × Description). labelled (key (item_of p.0)) (described_of p.1)) items))
+    ∙ ap (parts map_of)
+    (sym (parts_opened (λ (p : Value × Description). labelled (key (item_of p.0)) (described_of p.1)) items))
     ∙ sym (ap opened is)
