@@ -4,7 +4,7 @@ ghost use Rattle.passkey_cbor.specs.View.{item_of};
 ghost use Rattle.passkey_core.specs.DataViews.{data_parts};
 ghost use Rattle.passkey_explain.specs.Described as spec;
 ghost use Rattle.passkey_explain.specs.Described.{described, described_of, label_of, labelled};
-ghost use Rattle.passkey_explain.specs.DescribedData.{described_item};
+ghost use Rattle.passkey_explain.specs.DescribedData.{described_item, field_of};
 ghost use Rattle.passkey_kinds.specs.RecordReading.{shape_of};
 ghost use Rattle.passkey_report.specs.Opened.{as_map, data_in, is_key_name, item_at, key_in, opened, opened_leaf, opened_part};
 
@@ -132,8 +132,7 @@ fn open_members(
     alloc: Global,
     fields: &[(FieldName, Description)],
 ) -> Result<Vec<(FieldName, Description)>, OutOfMemory>
-    ensures { IfOk result (λ v. map (λ p. labelled (label_of p.0) (described_of p.1)) v.items
-        ≡ map (λ p. opened_part (labelled (label_of p.0) (described_of p.1))) fields.now) }
+    ensures { IfOk result (λ v. map field_of v.items ≡ map (λ p. opened_part (field_of p)) fields.now) }
 {
     let mut parts = Vec::new(alloc);
     for (name, description) in fields {

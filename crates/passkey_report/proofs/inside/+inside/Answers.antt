@@ -3,7 +3,8 @@ use Rattle.std.proofs.lemmas.List.{take_all}
 use Rattle.passkey_cbor.specs.View.{item_of}
 use Rattle.passkey_cbor.specs.declared.value.Value.{Value}
 use Rattle.passkey_explain.proofs.Describing.{described_of-List, described_of-Map, described_of-Record}
-use Rattle.passkey_explain.specs.Described.{Described, Part, described_of, element, key, label_of, labelled, list, map_of, parts, parts_from, record_of_members}
+use Rattle.passkey_explain.specs.Described.{Described, Part, described_of, element, key, labelled, list, map_of, parts, parts_from, record_of_members}
+use Rattle.passkey_explain.specs.DescribedData.{field_of}
 use Rattle.passkey_explain.specs.declared.description.Description.{Description}
 use Rattle.passkey_explain.specs.declared.description.FieldName.{FieldName}
 use Rattle.passkey_report.specs.Opened.{opened}
@@ -26,12 +27,11 @@ pub opened-returns-in_ok-open_members-in-Record : goal.opened-returns-in_ok-open
 opened-returns-in_ok-open_members-in-Record t c =
     let fields = c.deref-in-Record.result.now in
     let is = ap described_of c.in-Record.is ∙ described_of-Record c.in-Record.fields
-    ∙ ap (λ (ps : List (FieldName × Description)). parts record_of_members (parts_from (map
-    (λ p. labelled (label_of p.0) (described_of p.1)) ps))) (sym c.deref-in-Record.ensures.value) in
+    ∙ ap (λ (ps : List (FieldName × Description)). parts record_of_members (parts_from (map field_of ps)))
+    (sym c.deref-in-Record.ensures.value) in
     described_of-Record c.in_ok-open_members-in-Record.field-0
     ∙ ap (λ (ps : List Part). parts record_of_members (parts_from ps)) c.in_ok-open_members-in-Record.ensures
-    ∙ ap (parts record_of_members)
-    (sym (parts_opened (λ (p : FieldName × Description). labelled (label_of p.0) (described_of p.1)) fields))
+    ∙ ap (parts record_of_members) (sym (parts_opened field_of fields))
     ∙ sym (ap opened is)
 
 pub opened-returns-after-loop-key : goal.opened-returns-after-loop-key

@@ -1,6 +1,7 @@
 use Rattle.std.proofs.Common.{◌≡◌, map, take}
 use Rattle.passkey_cbor.specs.View.{item_of}
-use Rattle.passkey_explain.specs.Described.{described_of, key, label_of, labelled}
+use Rattle.passkey_explain.specs.Described.{described_of, key, labelled}
+use Rattle.passkey_explain.specs.DescribedData.{field_of}
 use Rattle.passkey_report.specs.Opened.{opened, opened_part}
 use Rattle.passkey_report.proofs.inside.+inside.Given as goal
 
@@ -15,5 +16,4 @@ invariant-opened-loop-key l =
 
 abbrev pub invariant-open_members-loop-name : goal.invariant-open_members-loop-name
 invariant-open_members-loop-name l =
-    map (λ p. labelled (label_of p.0) (described_of p.1)) l.parts.items
-    ≡ map (λ p. opened_part (labelled (label_of p.0) (described_of p.1))) (take l.name-index l.fields)
+    map field_of l.parts.items ≡ map (λ p. opened_part (field_of p)) (take l.name-index l.fields)
