@@ -1,4 +1,5 @@
 pub mod Fault
+pub mod Wanted
 pub mod Names
 pub mod Kind
 pub mod Members
