@@ -1,5 +1,5 @@
 -- What a call that explains why an input is refused returns, and leaves in the caller's memory.
-use Rattle.std.specs.Prelude.{◌≡◌, ◌-◌, ◌+◌, ◌++◌, ◌⊎◌, ℕ, List, length, take, drop, Bool, true, false, if◌then◌else◌, Option, Some, None, Result, Ok, Err}
+use Rattle.std.specs.Prelude.{◌≡◌, ◌-◌, ◌+◌, ◌++◌, ◌⊎◌, ℕ, List, length, take, drop, Bool, true, false, if◌then◌else◌, Option, Some, None, Result, Ok, Err, codes, string_bytes}
 use Rattle.passkey_attestation.specs.declared.fault.StatementFault.{StatementFault}
 use Rattle.passkey_attestation.specs.declared.fault.StatementFault.TheVariants.{Member}
 use Rattle.passkey_attestation.specs.declared.format.AttestationFormat.{AttestationFormat}
@@ -7,12 +7,14 @@ use Rattle.passkey_cbor.specs.Item.{Item}
 use Rattle.passkey_cbor.specs.LeadingItem.{IsLeadingItem}
 use Rattle.passkey_explain.specs.Along.{LiesAlong}
 use Rattle.passkey_explain.specs.Explains.{Explains}
+use Rattle.passkey_explain.specs.Texts.{explanation_text, extent_text}
 use Rattle.passkey_explain.specs.declared.explanation.Explanation.{Explanation}
 use Rattle.passkey_explain.specs.declared.explanation.Explanation.TheVariants.{NotWellFormed, Refused}
 use Rattle.passkey_explain_data.specs.DataBlame.{ExplainsData}
 use Rattle.passkey_explain_data.specs.DataLength.{IsDataLength}
 use Rattle.passkey_explain_data.specs.KeyBlame.{key_blame, key_path}
 use Rattle.passkey_explain_data.specs.StatementBlame.{ExplainsStatement}
+use Rattle.passkey_explain_data.specs.Texts.{data_refusal_text, key_refusal_text, statement_explanation_text}
 use Rattle.passkey_explain_data.specs.declared.statement.StatementExplanation.{StatementExplanation}
 use Rattle.passkey_explain_data.specs.declared.statement.StatementExplanation.TheVariants as statement
 use Rattle.passkey_explain_data.specs.declared.key.KeyRefusal.{KeyRefusal}
@@ -27,6 +29,7 @@ use Rattle.passkey_kinds.specs.Record.{Fields}
 use Rattle.passkey_kinds.specs.declared.fault.Fault.{Fault}
 use Rattle.passkey_kinds.specs.declared.fault.Fault.TheVariants.{DecodeFailed}
 use Rattle.passkey_malformed.specs.Stops.{IsMalformed}
+use Rattle.passkey_malformed.specs.Why.{malformed_text}
 use Rattle.passkey_malformed.specs.declared.why.Malformed.{Malformed}
 use Rattle.passkey_catalogue.specs.Catalogue.{definition}
 use Rattle.passkey_catalogue.specs.declared.form.Form.{Form}
@@ -36,6 +39,7 @@ use Rattle.passkey_run.specs.Definition.{Definition, authenticator, item, messag
 use Rattle.passkey_run.specs.Rewriting.{IsFrontLength}
 use Rattle.passkey_tpm.specs.CertInfo.{cert_info_refusal}
 use Rattle.passkey_tpm.specs.PubArea.{pub_area_refusal}
+use Rattle.passkey_tpm.specs.Texts.{refusal_text}
 use Rattle.passkey_tpm.specs.declared.refusal.TpmRefusal.{TpmRefusal}
 use Rattle.passkey_c.specs.ExplainingJson.{AcceptsJson, TellsJson}
 use Rattle.passkey_c.specs.Statuses.{data_status, message_status, statement_status}
@@ -50,11 +54,11 @@ pub record Memory : Type 0 where
   pub text : List ℕ
   pub len : ℕ
 
--- The fact holds of the status and of the bytes that are refused, and the output begins with a text about them, or as much of
--- it as there is room for; the length is that of the whole text.
-pub record IsTold (Tells : ℕ → Refusal → Type 0) (old new : Memory) (status : ℕ) : Type 0 where
-  pub tells : Tells status new.refusal
+-- The fact holds of the status, of the bytes that are refused and of a text about them; the output begins with the text, or as
+-- much of it as there is room for, and the length is that of the whole text.
+pub record IsTold (Tells : ℕ → Refusal → List ℕ → Type 0) (old new : Memory) (status : ℕ) : Type 0 where
   pub text : List ℕ
+  pub tells : Tells status new.refusal text
   pub output : new.text ≡ take (length old.text) text ++ drop (length text) old.text
   pub size : new.len ≡ length text
   pub same : new.read ≡ old.read
@@ -64,22 +68,22 @@ abbrev pub IsUnknown : Memory → Memory → ℕ → Type 0
 IsUnknown old new status = (status ≡ 3) × (new ≡ old)
 
 -- Status 0 if so many bytes are accepted; 2 if memory ran out; or the fault's status.
-pub data Explaining (Accepts : ℕ → Type 0) (Tells : ℕ → Refusal → Type 0) (old new : Memory) (status : ℕ) : Type 0
-  where
-    accepted : status ≡ 0 → (n : ℕ) → Accepts n → new ≡ record old { read = n }
-        → Explaining Accepts Tells old new status
-    exhausted : status ≡ 2 → new ≡ old → Explaining Accepts Tells old new status
-    told : IsTold Tells old new status → Explaining Accepts Tells old new status
+pub data Explaining (Accepts : ℕ → Type 0) (Tells : ℕ → Refusal → List ℕ → Type 0) (old new : Memory) (status : ℕ)
+    : Type 0 where
+  accepted : status ≡ 0 → (n : ℕ) → Accepts n → new ≡ record old { read = n }
+      → Explaining Accepts Tells old new status
+  exhausted : status ≡ 2 → new ≡ old → Explaining Accepts Tells old new status
+  told : IsTold Tells old new status → Explaining Accepts Tells old new status
 
-abbrev pub IsVerdict : (ℕ → Type 0) → (ℕ → Refusal → Type 0) → Verdict → Type 0
+abbrev pub IsVerdict : (ℕ → Type 0) → (ℕ → Refusal → List ℕ → Type 0) → Verdict → Type 0
 IsVerdict Accepts Tells (verdict.Accepted n) = Accepts n
-IsVerdict Accepts Tells (verdict.Refused r) = Tells r.status r.refusal
+IsVerdict Accepts Tells (verdict.Refused r) = Tells r.status r.refusal (string_bytes r.text)
 
 -- what is written of a verdict
 abbrev pub TellsResult : {E : Type 0} → Result Verdict E → Memory → Memory → ℕ → Type 0
 TellsResult (Ok (verdict.Accepted n)) old new status = (status ≡ 0) × (new ≡ record old { read = n })
 TellsResult (Ok (verdict.Refused r)) old new status =
-    IsTold (λ s b. (s ≡ r.status) × (b ≡ r.refusal)) old new status
+    IsTold (λ s b text. (s ≡ r.status) × (b ≡ r.refusal) × (text ≡ string_bytes r.text)) old new status
 TellsResult (Err e) old new status = (status ≡ 2) × (new ≡ old)
 
 -- ---- data items
@@ -89,19 +93,24 @@ abbrev pub refused_from : ℕ → Malformed → Refusal
 refused_from n m = record { offset = m.offset; len = n - m.offset }
 
 -- No data item begins the bytes, and this is why and where.
-pub record TellsItem (input : List ℕ) (status : ℕ) (refusal : Refusal) : Type 0 where
+pub record TellsItem (input : List ℕ) (status : ℕ) (refusal : Refusal) (text : List ℕ) : Type 0 where
   pub stop : Malformed
   pub stops : IsMalformed input stop
   pub fault : status ≡ message_status DecodeFailed
   pub bytes : refusal ≡ refused_from (length input) stop
+  pub says : text ≡ malformed_text stop
 
 -- ---- COSE keys
 
 abbrev pub AcceptsKey : List ℕ → ℕ → Type 0
 AcceptsKey input n = Begins input (λ i len. (n ≡ len) × (key_blame i ≡ None))
 
+-- why an item isn't a key, and where it is
+abbrev pub key_text : KeyRefusal → Refusal → List ℕ
+key_text k r = key_refusal_text k ++ codes " " ++ extent_text (record { offset = r.offset; len = r.len })
+
 -- The data item that begins the bytes isn't a key, and this is what in it is to blame, and where it is encoded.
-pub record TellsKey (input : List ℕ) (status : ℕ) (refusal : Refusal) : Type 0 where
+pub record TellsKey (input : List ℕ) (status : ℕ) (refusal : Refusal) (text : List ℕ) : Type 0 where
   pub item : Item
   pub len : ℕ
   pub leads : IsLeadingItem input item len
@@ -109,9 +118,10 @@ pub record TellsKey (input : List ℕ) (status : ℕ) (refusal : Refusal) : Type
   pub blamed : key_blame item ≡ Some refused
   pub fault : status ≡ data_status refused.fault
   pub lies : LiesAlong (key_path refused.blame) item input 0 refusal.offset (refusal.offset + refusal.len)
+  pub says : text ≡ key_text refused refusal
 
-abbrev pub TellsNoKey : List ℕ → ℕ → Refusal → Type 0
-TellsNoKey input status refusal = TellsItem input status refusal ⊎ TellsKey input status refusal
+abbrev pub TellsNoKey : List ℕ → ℕ → Refusal → List ℕ → Type 0
+TellsNoKey input status refusal text = TellsItem input status refusal text ⊎ TellsKey input status refusal text
 
 -- ---- messages
 
@@ -128,11 +138,13 @@ abbrev pub AcceptsMessage : {P : Type 0} → Fields P → List ℕ → ℕ → T
 AcceptsMessage t input n = Explains t input None × IsFrontLength input n
 
 -- The message at the beginning is refused as this explanation says.
-pub record TellsMessage {P : Type 0} (t : Fields P) (input : List ℕ) (status : ℕ) (refusal : Refusal) : Type 0 where
+pub record TellsMessage {P : Type 0} (t : Fields P) (input : List ℕ) (status : ℕ) (refusal : Refusal) (text : List ℕ)
+    : Type 0 where
   pub explanation : Explanation
   pub explains : Explains t input (Some explanation)
   pub fault : status ≡ message_status (fault_of explanation)
   pub bytes : refusal ≡ refusal_of (length input) explanation
+  pub says : text ≡ explanation_text explanation
 
 -- ---- authenticator data
 
@@ -162,13 +174,14 @@ pub record AcceptsData (input : List ℕ) (n : ℕ) : Type 0 where
   pub size : IsDataLength input n
 
 -- They don't, and this is refused.
-pub record TellsData (input : List ℕ) (status : ℕ) (refusal : Refusal) : Type 0 where
+pub record TellsData (input : List ℕ) (status : ℕ) (refusal : Refusal) (text : List ℕ) : Type 0 where
   pub found : Option DataRefusal
   pub explains : ExplainsData input found
   pub refused : DataRefusal
   pub is : refused_in_front found ≡ Some refused
   pub fault : status ≡ data_status refused.fault
   pub bytes : refusal ≡ refusal_in (length input) refused
+  pub says : text ≡ data_refusal_text refused
 
 -- ---- attestation statements
 
@@ -185,11 +198,13 @@ abbrev pub AcceptsStatement : AttestationFormat → List ℕ → ℕ → Type 0
 AcceptsStatement f input n = ExplainsStatement f input None × IsFrontLength input n
 
 -- The statement of this format at the beginning is refused as this explanation says.
-pub record TellsStatement (f : AttestationFormat) (input : List ℕ) (status : ℕ) (refusal : Refusal) : Type 0 where
+pub record TellsStatement (f : AttestationFormat) (input : List ℕ) (status : ℕ) (refusal : Refusal) (text : List ℕ)
+    : Type 0 where
   pub explanation : StatementExplanation
   pub explains : ExplainsStatement f input (Some explanation)
   pub fault : status ≡ statement_status (statement_fault_of explanation)
   pub bytes : refusal ≡ statement_refusal_of (length input) explanation
+  pub says : text ≡ statement_explanation_text explanation
 
 -- ---- structures of a TPM
 
@@ -201,11 +216,12 @@ abbrev pub AcceptsStructure : Option TpmRefusal → ℕ → ℕ → Type 0
 AcceptsStructure found len n = (found ≡ None) × (n ≡ len)
 
 -- this field is refused
-pub record TellsStructure (found : Option TpmRefusal) (status : ℕ) (refusal : Refusal) : Type 0 where
+pub record TellsStructure (found : Option TpmRefusal) (status : ℕ) (refusal : Refusal) (text : List ℕ) : Type 0 where
   pub refused : TpmRefusal
   pub is : found ≡ Some refused
   pub fault : status ≡ data_status error.DecodeFailed
   pub bytes : refusal ≡ structure_refusal refused
+  pub says : text ≡ refusal_text refused
 
 -- ---- by what the input is
 
@@ -223,15 +239,15 @@ Accepts authenticator = AcceptsData
 Accepts (message t tree) = AcceptsMessage t
 Accepts (other f) = AcceptsForm f
 
--- this is the fault's status, and these bytes are refused
-abbrev pub TellsForm : Form → List ℕ → ℕ → Refusal → Type 0
+-- this is the fault's status, these bytes are refused, and this is said of them
+abbrev pub TellsForm : Form → List ℕ → ℕ → Refusal → List ℕ → Type 0
 TellsForm form.Key = TellsNoKey
 TellsForm (form.Statement f) = TellsStatement f
 TellsForm form.CertInfo = λ input. TellsStructure (cert_info_refusal input)
 TellsForm form.PubArea = λ input. TellsStructure (pub_area_refusal input)
 TellsForm (form.Json k) = TellsJson k
 
-abbrev pub Tells : Definition Form → List ℕ → ℕ → Refusal → Type 0
+abbrev pub Tells : Definition Form → List ℕ → ℕ → Refusal → List ℕ → Type 0
 Tells item = TellsItem
 Tells authenticator = TellsData
 Tells (message t tree) = TellsMessage t

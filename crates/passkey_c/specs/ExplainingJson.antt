@@ -1,5 +1,5 @@
 -- Why a JSON text is refused.
-use Rattle.std.specs.Prelude.{◌≡◌, ◌⊎◌, ℕ, List, length, None, Some}
+use Rattle.std.specs.Prelude.{◌≡◌, ◌⊎◌, ℕ, List, length, None, Some, codes}
 use Rattle.passkey_catalogue.specs.Explaining.{ExplainsAs}
 use Rattle.passkey_catalogue.specs.JsonTexts.{any_json_definition}
 use Rattle.passkey_catalogue.specs.declared.any_json_kind.AnyJsonKind.{AnyJsonKind}
@@ -22,7 +22,7 @@ pub record AcceptsJson (k : AnyJsonKind) (input : List ℕ) (n : ℕ) : Type 0 w
   pub size : n ≡ length input
 
 -- The input is a JSON text, and its value is refused with this fault.
-pub record TellsValue (k : AnyJsonKind) (input : List ℕ) (status : ℕ) (refusal : Refusal) : Type 0 where
+pub record TellsValue (k : AnyJsonKind) (input : List ℕ) (status : ℕ) (refusal : Refusal) (text : List ℕ) : Type 0 where
   pub value : Data
   pub reads : IsJson input value
   pub refused : RefusedJson
@@ -31,9 +31,12 @@ pub record TellsValue (k : AnyJsonKind) (input : List ℕ) (status : ℕ) (refus
   pub bytes : refusal ≡ whole (length input)
 
 -- The input isn't a JSON text.
-abbrev pub TellsNoJson : List ℕ → ℕ → Refusal → Type 0
-TellsNoJson input status refusal =
-    HasNoJson input × (status ≡ status_of BadJson) × (refusal ≡ whole (length input))
+pub record TellsNoJson (input : List ℕ) (status : ℕ) (refusal : Refusal) (text : List ℕ) : Type 0 where
+  pub none : HasNoJson input
+  pub fault : status ≡ status_of BadJson
+  pub bytes : refusal ≡ whole (length input)
+  pub says : text ≡ codes "a JSON text in UTF-8 of at most 127 levels is wanted"
 
-abbrev pub TellsJson : AnyJsonKind → List ℕ → ℕ → Refusal → Type 0
-TellsJson k input status refusal = TellsNoJson input status refusal ⊎ TellsValue k input status refusal
+abbrev pub TellsJson : AnyJsonKind → List ℕ → ℕ → Refusal → List ℕ → Type 0
+TellsJson k input status refusal text =
+    TellsNoJson input status refusal text ⊎ TellsValue k input status refusal text

@@ -1,5 +1,5 @@
 //! Why inputs are refused, for C.
-ghost use Rattle.std.specs.Prelude.{◌≡◌, ℕ, IfOk, Some};
+ghost use Rattle.std.specs.Prelude.{◌≡◌, ℕ, IfOk, Some, string_bytes};
 ghost use Rattle.passkey_cbor.specs.Item.{Item};
 ghost use Rattle.passkey_cbor.specs.LeadingItem.{HasNoLeadingItem, IsLeadingItem};
 ghost use Rattle.passkey_c.specs.Explaining.{Accepts, AcceptsData, AcceptsForm, AcceptsKey, AcceptsMessage, AcceptsStatement, AcceptsStructure, ExplainsAs, IsVerdict, Tells, TellsData, TellsForm, TellsItem, TellsKey, TellsMessage, TellsNoKey, TellsStatement, TellsStructure, bytes_in, fault_of, refusal_in, refusal_of, refused_in_front, statement_fault_of, statement_refusal_of, structure_refusal};
@@ -31,7 +31,7 @@ use std::alloc::Global;
 /// Explains why no data item begins the input, and where.
 fn tell_item(alloc: Global, input: &[u8]) -> Result<Reason, OutOfMemory>
     requires { HasNoLeadingItem input.now }
-    ensures { IfOk result (λ r. TellsItem input.now r.status r.refusal) }
+    ensures { IfOk result (λ r. TellsItem input.now r.status r.refusal (string_bytes r.text)) }
 {
     let stop = malformed(input).unwrap();
     let text = format!(in alloc; "{stop}")?;
@@ -54,14 +54,16 @@ fn judge_item(alloc: Global, input: &[u8]) -> Result<Verdict, OutOfMemory>
 /// Explains why the data item at the beginning of the input isn't a key, and where.
 fn tell_key(alloc: Global, input: &[u8], refused: KeyRefusal) -> Result<Reason, OutOfMemory>
     requires { (item : Item) × ((len : ℕ) × (IsLeadingItem input.now item len × (key_blame item ≡ Some refused))) }
-    ensures { IfOk result (λ r. TellsKey input.now r.status r.refusal) }
+    ensures { IfOk result (λ r. TellsKey input.now r.status r.refusal (string_bytes r.text)) }
 {
     let found = locate_key(input, refused.blame).unwrap();
-    let (offset, len) = (found.offset, found.len);
-    let text = format!(in alloc; "{refused} (offset {offset}, length {len})")?;
+    let text = format!(in alloc; "{refused} {found}")?;
     Ok(Reason {
         status: data_status(refused.fault),
-        refusal: Refusal { offset, len },
+        refusal: Refusal {
+            offset: found.offset,
+            len: found.len,
+        },
         text,
     })
 }

@@ -24,7 +24,7 @@ fn json_text(alloc: Global, refused: &RefusedJson) -> Result<String, OutOfMemory
 
 /// Returns why an input of this length is refused as a JSON text: all of it.
 fn reason(status: u32, len: usize, text: String) -> Reason
-    ensures { (result.status ≡ status) × (result.refusal ≡ whole len) }
+    ensures { (result.status ≡ status) × (result.refusal ≡ whole len) × (result.text ≡ text) }
 {
     Reason {
         status,

@@ -1,4 +1,4 @@
-use Rattle.std.proofs.Common.{subst}
+use Rattle.std.proofs.Common.{append_assoc, subst, ◌∙◌}
 use Rattle.passkey_explain.proofs.Explaining.{located}
 use Rattle.passkey_explain.specs.Along.{IsLocated}
 use Rattle.passkey_explain_data.specs.KeyBlame.{key_path}
@@ -27,4 +27,5 @@ returns c =
       fault = c.data_status.ensures;
       lies = subst (IsLocated path item c.args.input.now) c.unwrap-found.ensures
           (c.locate_key.ensures item lead.0 c.requires.1.0 h.0 lead.1);
+      says = c.in_ok-text.ensures.ok ∙ (simp append_assoc);
     }
