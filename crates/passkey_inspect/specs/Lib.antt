@@ -1,2 +1,3 @@
+pub mod Frame
 pub mod Kinds
 pub mod Prints

@@ -1,5 +1,5 @@
 -- What is printed of bytes.
-use Rattle.std.specs.Prelude.{◌≡◌, ◌⊎◌, ℕ, List, [], ◌∷◌, ◌++◌, Option, None, Some, ⊤, flat_map}
+use Rattle.std.specs.Prelude.{◌≡◌, ℕ, List, [], ◌∷◌, ◌++◌, if◌then◌else◌, Option, None, Some, ⊤, flat_map}
 use Rattle.std.specs.Str.{chars}
 use Rattle.hex.specs.Hex.{encode_lower}
 use Rattle.passkey_cbor.specs.Item.{Item}
@@ -9,13 +9,16 @@ use Rattle.passkey_cbor_text.specs.diagnose.BytesText.{bytes_diagnosis}
 use Rattle.passkey_cbor_text.specs.diagnose.Quoted.{visible_text}
 use Rattle.passkey_explain.specs.Described.{Described}
 use Rattle.passkey_report.specs.Json.{json_text}
-use Rattle.passkey_inspect_input.specs.Input.{bytes_as}
+use Rattle.passkey_inspect_input.specs.Input.{bytes_as, form_of}
 use Rattle.passkey_inspect_input.specs.declared.Form.{Form}
+use Rattle.passkey_inspect_input.specs.declared.Form.TheVariants.{Json}
 use Rattle.passkey_catalogue.specs.JsonTexts.{any_json_rewritten}
 use Rattle.passkey_run.specs.RewritesJson.{RewritesJson}
+use Rattle.passkey_inspect.specs.Frame.{body_in, kind_in}
+use Rattle.passkey_inspect.specs.declared.options.Options.{Options}
 use Rattle.passkey_inspect.specs.declared.options.Output.{Output}
 use Rattle.passkey_inspect.specs.declared.options.Output.TheVariants.{Report, Json as JsonText, Diagnosis, Bytes as BytesText, Encoding}
-use Rattle.passkey_catalogue.specs.Catalogue.{definition, json_of}
+use Rattle.passkey_catalogue.specs.Catalogue.{definition, is_json, json_of}
 use Rattle.passkey_catalogue.specs.Rewriting.{Encodes as EncodesAs}
 use Rattle.passkey_catalogue.specs.declared.any_json_kind.AnyJsonKind.{AnyJsonKind}
 use Rattle.passkey_catalogue.specs.declared.kind.Kind.{Kind}
@@ -59,15 +62,16 @@ Prints _ kind bytes line = ⊤
 abbrev pub PrintsAs : Output → List ℕ → List ℕ → Type 0
 PrintsAs output bytes line = (kind : Kind) × Prints output kind bytes line
 
--- The message is all of the bytes, or what follows a command or a status code.
-abbrev pub IsMessageIn : List ℕ → List ℕ → Type 0
-IsMessageIn bytes message = (bytes ≡ message) ⊎ ((first : ℕ) × (bytes ≡ first ∷ message))
+-- What is printed of a message: as the kind that is known, or as some kind.
+abbrev pub PrintsKnown : Output → Option Kind → List ℕ → List ℕ → Type 0
+PrintsKnown output (Some kind) = Prints output kind
+PrintsKnown output None = PrintsAs output
 
--- What is printed of the bytes that an input spells.
-pub record PrintsBytes (output : Output) (bytes line : List ℕ) : Type 0 where
-  pub message : List ℕ
-  pub inside : IsMessageIn bytes message
-  pub prints : PrintsAs output message line
+-- What is printed of the bytes that an input spells: as the kind that was named; or of what follows a status code or a
+-- command, as the kind of the command's parameters, or as some kind.
+abbrev pub PrintsBytes : Output → Option Kind → List ℕ → List ℕ → Type 0
+PrintsBytes output (Some kind) bytes = Prints output kind bytes
+PrintsBytes output None bytes = PrintsKnown output (kind_in bytes) (body_in bytes)
 
 -- The JSON text of the record that the input is decoded to as the kind, if it is one of JSON.
 abbrev pub RewritesTextAs : Option AnyJsonKind → List ℕ → List ℕ → Type 0
@@ -81,20 +85,36 @@ RewritesText k = RewritesTextAs (json_of k)
 abbrev pub visible : List ℕ → List ℕ
 visible text = flat_map visible_text (chars text)
 
--- What is printed of a JSON text as some kind: as JSON the record that it is decoded to, in a line. Nothing is said of
--- reports, and the other options are for bytes.
-abbrev pub PrintsRecord : Output → List ℕ → List ℕ → Type 0
-PrintsRecord Report input line = ⊤
-PrintsRecord JsonText input line =
-    (k : Kind) × (text : List ℕ) × RewritesText k input text × (line ≡ visible text ++ 10 ∷ [])
-PrintsRecord _ input line = ⊥
+-- What is printed of a JSON text as the kind: as JSON the record that it is decoded to, in a line. Nothing is said of reports,
+-- and the other options are for bytes.
+abbrev pub PrintsRecordAs : Output → Kind → List ℕ → List ℕ → Type 0
+PrintsRecordAs Report kind input line = ⊤
+PrintsRecordAs JsonText kind input line =
+    (text : List ℕ) × RewritesText kind input text × (line ≡ visible text ++ 10 ∷ [])
+PrintsRecordAs _ kind input line = ⊥
 
--- What is printed of an input that spells bytes in some form.
-pub record PrintsSpelled (output : Output) (input line : List ℕ) : Type 0 where
-  pub form : Form
+-- What is printed of a JSON text: as the kind that was named, or as some kind.
+abbrev pub PrintsRecord : Output → Option Kind → List ℕ → List ℕ → Type 0
+PrintsRecord output (Some kind) input line = PrintsRecordAs output kind input line
+PrintsRecord output None input line = (kind : Kind) × PrintsRecordAs output kind input line
+
+-- What is printed of an input that spells bytes in this form.
+pub record PrintsSpelled (output : Output) (kind : Option Kind) (form : Form) (input line : List ℕ) : Type 0 where
   pub bytes : List ℕ
   pub spelled : bytes_as form input ≡ Some bytes
-  pub prints : PrintsBytes output bytes line
+  pub prints : PrintsBytes output kind bytes line
 
-abbrev pub PrintsInput : Output → List ℕ → List ℕ → Type 0
-PrintsInput output input line = PrintsSpelled output input line ⊎ PrintsRecord output input line
+-- What is printed of an input in this form.
+abbrev pub PrintsInForm : Form → Output → Option Kind → List ℕ → List ℕ → Type 0
+PrintsInForm Json output kind input line = PrintsRecord output kind input line
+PrintsInForm form output kind input line = PrintsSpelled output kind form input line
+
+-- The form that was named; or that of a kind of JSON; or the one that is found.
+abbrev pub form_in : Option Form → Option Kind → List ℕ → Form
+form_in (Some form) kind input = form
+form_in None (Some kind) input = if is_json kind then Json else form_of input
+form_in None None input = form_of input
+
+-- What is printed of an input with these options.
+abbrev pub PrintsInput : Options → List ℕ → List ℕ → Type 0
+PrintsInput o input line = PrintsInForm (form_in o.form o.kind input) o.output o.kind input line

@@ -1,5 +1,6 @@
 //! The first byte of a request or of a response.
-ghost use Rattle.passkey_inspect.specs.Prints.{IsMessageIn};
+ghost use Rattle.std.specs.Prelude.{◌≡◌};
+ghost use Rattle.passkey_inspect.specs.Frame.{body_in, framed_kind, is_body, kind_in, request_kind};
 
 use crate::kind::InspectKind;
 use crate::status_name::status_name;
@@ -23,7 +24,9 @@ pub enum Frame {
 }
 
 /// Returns whether the bytes are none, or begin with a map (RFC 8949, section 3.1).
-fn is_body(bytes: &[u8]) -> bool {
+fn is_body(bytes: &[u8]) -> bool
+    ensures { result ≡ is_body bytes.now }
+{
     match bytes.first() {
         None => true,
         Some(first) => *first / 32 == 5,
@@ -35,7 +38,8 @@ fn is_body(bytes: &[u8]) -> bool {
 /// after it. A byte alone that isn't a command is a status code, if that has a name: it may be a
 /// data item, too, and is lent as one.
 pub fn frame_of(bytes: &[u8]) -> (Frame, &[u8])
-    ensures { IsMessageIn bytes.now result.1.now }
+    ensures body { result.1.now ≡ body_in bytes.now }
+    ensures kind { framed_kind result.0 ≡ kind_in bytes.now }
 {
     if let [0, body @ ..] = bytes {
         if is_body(body) {
@@ -54,7 +58,9 @@ pub fn frame_of(bytes: &[u8]) -> (Frame, &[u8])
 }
 
 /// Returns the kind of the command's parameters.
-pub fn request_kind(command: Command) -> Option<InspectKind> {
+fn request_kind(command: Command) -> Option<InspectKind>
+    ensures { result ≡ request_kind command }
+{
     match command {
         Command::MakeCredential => Some(InspectKind::Bytes(BytesKind::MakeRequest)),
         Command::GetAssertion => Some(InspectKind::Bytes(BytesKind::GetRequest)),
@@ -67,6 +73,16 @@ pub fn request_kind(command: Command) -> Option<InspectKind> {
         }
         Command::LargeBlobs => Some(InspectKind::Ctap(CtapKind::BlobsRequest)),
         Command::Config => Some(InspectKind::Ctap(CtapKind::ConfigRequest)),
+        _ => None,
+    }
+}
+
+/// Returns the kind of which what stands before a message tells.
+pub fn framed_kind(frame: Frame) -> Option<InspectKind>
+    ensures { result ≡ framed_kind frame }
+{
+    match frame {
+        Frame::Command(command) => request_kind(command),
         _ => None,
     }
 }

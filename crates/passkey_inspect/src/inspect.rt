@@ -1,11 +1,11 @@
 //! One run: reads bytes, and returns what is printed.
-ghost use Rattle.std.specs.Prelude.{◌≡◌, ◌++◌, ◌∷◌, [], IfOk, string_bytes};
-ghost use Rattle.passkey_inspect.specs.Prints.{IsMessageIn, Prints, PrintsAs, PrintsBytes, PrintsInput, ShowsBytes, ShowsEncoding, ShowsItem, ShowsJson};
+ghost use Rattle.std.specs.Prelude.{◌≡◌, ◌++◌, ◌∷◌, [], IfOk, None, string_bytes};
+ghost use Rattle.passkey_inspect.specs.Prints.{Prints, PrintsAs, PrintsBytes, PrintsInput, PrintsSpelled, form_in, ShowsBytes, ShowsEncoding, ShowsItem, ShowsJson};
 
 use crate::encode::encode;
 use crate::examine::{Contents, Examined, examine};
 use crate::fault::InspectFault;
-use crate::frame::{Frame, frame_of, frame_text, request_kind};
+use crate::frame::{Frame, frame_of, frame_text, framed_kind};
 use crate::kind::{CBOR, FOUND_KINDS, InspectKind, is_data_item, name_of};
 use crate::newer_members::newer_members_text;
 use crate::options::{Options, Output};
@@ -355,17 +355,6 @@ fn print_found(alloc: Global, output: Output, body: &Body<'_>) -> Result<String,
     text
 }
 
-/// Returns what stands before a message, and lends the message, which is all of the bytes if its kind
-/// was named.
-fn message_of(kind: Option<InspectKind>, bytes: &[u8]) -> (Frame, &[u8])
-    ensures { IsMessageIn bytes.now result.1.now }
-{
-    match kind {
-        Some(_) => (Frame::None, bytes),
-        None => frame_of(bytes),
-    }
-}
-
 /// Returns the fault with the form that was assumed, where that may be another one than was meant.
 fn with_form(
     alloc: Global,
@@ -384,46 +373,73 @@ fn with_form(
     fault.with_line(line.as_str())
 }
 
-/// Returns what is printed of the bytes that an input spells in this form.
-fn print_bytes(
+/// Returns what is printed of bytes whose kind wasn't named: of the message in them.
+fn print_framed(
     alloc: Global,
-    options: &Options<'_>,
+    output: Output,
     form: Form,
     bytes: &[u8],
 ) -> Result<String, InspectFault>
-    ensures { IfOk result (λ text. PrintsBytes options.now.output bytes.now (string_bytes text)) }
+    ensures { IfOk result (λ text. PrintsBytes output None bytes.now (string_bytes text)) }
 {
-    let (frame, message) = message_of(options.kind, bytes);
+    let (frame, message) = frame_of(bytes);
     let body = Body {
         form,
         len: bytes.len(),
         frame,
         bytes: message,
     };
-    let kind = match (options.kind, frame) {
-        (Some(kind), _) => Some(kind),
-        (None, Frame::Command(command)) => request_kind(command),
-        (None, _) => None,
-    };
-    match kind {
-        Some(kind) => print_as(alloc, options.output, &body, kind),
-        None => print_found(alloc, options.output, &body),
+    match framed_kind(frame) {
+        Some(kind) => print_as(alloc, output, &body, kind),
+        None => print_found(alloc, output, &body),
     }
 }
 
-/// Returns what is printed of the input. Returns the fault if it spells no bytes in the form that
-/// was named, or is refused; then the fault says why.
-pub fn inspect(alloc: Global, options: &Options<'_>, input: &[u8]) -> Result<String, InspectFault>
-    ensures { IfOk result (λ text. PrintsInput options.now.output input.now (string_bytes text)) }
+/// Returns what is printed of the bytes that an input spells in this form. A kind that was named takes
+/// all of them.
+fn print_bytes(
+    alloc: Global,
+    options: &Options<'_>,
+    form: Form,
+    bytes: &[u8],
+) -> Result<String, InspectFault>
+    ensures { IfOk result
+        (λ text. PrintsBytes options.now.output options.now.kind bytes.now (string_bytes text)) }
 {
-    let form = match (options.form, options.kind) {
-        (Some(form), _) => form,
-        (None, Some(kind)) if kind.is_json() => Form::Json,
-        (None, _) => form_of(alloc, input)?,
+    let Some(kind) = options.kind else {
+        return print_framed(alloc, options.output, form, bytes);
     };
-    if form == Form::Json {
-        return print_record(alloc, options, input);
+    let body = Body {
+        form,
+        len: bytes.len(),
+        frame: Frame::None,
+        bytes,
+    };
+    print_as(alloc, options.output, &body, kind)
+}
+
+/// Returns the form of the input: the one that was named, that of a kind of JSON, or the one that is
+/// found.
+fn form_in(alloc: Global, options: &Options<'_>, input: &[u8]) -> Result<Form, OutOfMemory>
+    ensures { IfOk result (λ form. form ≡ form_in options.now.form options.now.kind input.now) }
+{
+    match (options.form, options.kind) {
+        (Some(form), _) => Ok(form),
+        (None, Some(kind)) if kind.is_json() => Ok(Form::Json),
+        (None, _) => form_of(alloc, input),
     }
+}
+
+/// Returns what is printed of an input that spells bytes in this form.
+fn print_spelled(
+    alloc: Global,
+    options: &Options<'_>,
+    form: Form,
+    input: &[u8],
+) -> Result<String, InspectFault>
+    ensures { IfOk result
+        (λ text. PrintsSpelled options.now.output options.now.kind form input.now (string_bytes text)) }
+{
     match bytes_as(alloc, form, input)? {
         Some(bytes) => match print_bytes(alloc, options, form, bytes.as_slice()) {
             Err(fault) if options.form.is_none() => {
@@ -433,5 +449,16 @@ pub fn inspect(alloc: Global, options: &Options<'_>, input: &[u8]) -> Result<Str
         },
         None if form == Form::Hexadecimal => Err(InspectFault::Run(RunFault::BadHex)),
         None => Err(InspectFault::BadBase64),
+    }
+}
+
+/// Returns what is printed of the input. Returns the fault if it spells no bytes in the form that
+/// was named, or is refused; then the fault says why.
+pub fn inspect(alloc: Global, options: &Options<'_>, input: &[u8]) -> Result<String, InspectFault>
+    ensures { IfOk result (λ text. PrintsInput options.now input.now (string_bytes text)) }
+{
+    match form_in(alloc, options, input)? {
+        Form::Json => print_record(alloc, options, input),
+        form => print_spelled(alloc, options, form, input),
     }
 }

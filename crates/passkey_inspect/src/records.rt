@@ -1,6 +1,6 @@
 //! JSON texts, and what is in their byte strings.
-ghost use Rattle.std.specs.Prelude.{◌≡◌, ◌++◌, ◌∷◌, [], IfOk, string_bytes};
-ghost use Rattle.passkey_inspect.specs.Prints.{PrintsRecord, RewritesText, visible};
+ghost use Rattle.std.specs.Prelude.{◌≡◌, ◌++◌, ◌∷◌, [], IfOk, None, string_bytes};
+ghost use Rattle.passkey_inspect.specs.Prints.{PrintsRecord, PrintsRecordAs, RewritesText, visible};
 
 use crate::examine::{Examined, examine};
 use crate::fault::InspectFault;
@@ -186,7 +186,7 @@ fn print_as(
     names: &[&'static str],
     input: &[u8],
 ) -> Result<String, InspectFault>
-    ensures { IfOk result (λ text. PrintsRecord output input.now (string_bytes text)) }
+    ensures { IfOk result (λ text. PrintsRecordAs output kind input.now (string_bytes text)) }
 {
     let text = match rewrite(alloc, kind, input) {
         Ok(text) => text,
@@ -223,21 +223,16 @@ fn told_kind(value: &Value) -> Option<InspectKind> {
     Some(InspectKind::Json(kind))
 }
 
-/// Returns what is printed of a JSON text: of the kind that was named, or else of the one of which
-/// its members tell, or else of the first that accepts it. Returns the fault of that kind, or of
-/// client data if there is none.
-pub fn print_record(
+/// Adds the names of the kinds that accept the JSON text, and returns the kind of which its members
+/// tell, or else the first of these, or else that of client data.
+fn find_kind(
     alloc: Global,
-    options: &Options<'_>,
     input: &[u8],
-) -> Result<String, InspectFault>
-    ensures { IfOk result (λ text. PrintsRecord options.now.output input.now (string_bytes text)) }
-{
-    if let Some(kind) = options.kind {
-        return print_as(alloc, options.output, kind, &[], input);
-    }
+    names: &mut Vec<&'static str>,
+) -> Result<InspectKind, RunFault> {
     let value = parse_json(alloc, input)?;
-    let mut names = Vec::new(alloc);
+    let told = told_kind(&value);
+    drop(value);
     let mut best = None;
     for kind in FOUND_JSON_KINDS {
         if accepts(alloc, kind, input)? {
@@ -246,6 +241,29 @@ pub fn print_record(
         }
     }
     let client_data = InspectKind::Json(JsonKind::ClientData);
-    let kind = told_kind(&value).or(best).unwrap_or(client_data);
-    print_as(alloc, options.output, kind, names.as_slice(), input)
+    Ok(told.or(best).unwrap_or(client_data))
+}
+
+/// Returns what is printed of a JSON text as the kind that is found, or that kind's fault.
+fn print_found(alloc: Global, output: Output, input: &[u8]) -> Result<String, InspectFault>
+    ensures { IfOk result (λ text. PrintsRecord output None input.now (string_bytes text)) }
+{
+    let mut names = Vec::new(alloc);
+    let kind = find_kind(alloc, input, &mut names)?;
+    print_as(alloc, output, kind, names.as_slice(), input)
+}
+
+/// Returns what is printed of a JSON text: of the kind that was named, or of the one that is found.
+pub fn print_record(
+    alloc: Global,
+    options: &Options<'_>,
+    input: &[u8],
+) -> Result<String, InspectFault>
+    ensures { IfOk result
+        (λ text. PrintsRecord options.now.output options.now.kind input.now (string_bytes text)) }
+{
+    match options.kind {
+        Some(kind) => print_as(alloc, options.output, kind, &[], input),
+        None => print_found(alloc, options.output, input),
+    }
 }
