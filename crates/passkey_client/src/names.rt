@@ -5,8 +5,7 @@ ghost use Rattle.passkey_json.specs.Shape.{leaf};
 ghost use Rattle.passkey_json.specs.declared.wanted.WantedJson.TheVariants.{Name};
 
 use passkey_json::{
-    BytesForm, FromJson, JsonRefusal, Look, ToJson, WantedJson, look_at_leaf, read_name,
-    written_name,
+    BytesForm, FromJson, JsonBlame, JsonRefusal, ToJson, WantedJson, read_name, written_name,
 };
 use passkey_memory::OutOfMemory;
 use passkey_webauthn::EnumNames;
@@ -69,11 +68,8 @@ impl FromJson for CredentialProtectionPolicy {
         read_name(value)
     }
 
-    fn look(alloc: Global, value: &Value) -> Result<Look, OutOfMemory> {
-        look_at_leaf(
-            CredentialProtectionPolicy::from_value(alloc, value),
-            WantedJson::Name,
-        )
+    fn blame(alloc: Global, _value: &Value) -> Result<JsonBlame, OutOfMemory> {
+        Ok(JsonBlame::wanted(alloc, WantedJson::Name))
     }
 }
 
@@ -135,11 +131,8 @@ impl FromJson for CredentialMediationRequirement {
         read_name(value)
     }
 
-    fn look(alloc: Global, value: &Value) -> Result<Look, OutOfMemory> {
-        look_at_leaf(
-            CredentialMediationRequirement::from_value(alloc, value),
-            WantedJson::Name,
-        )
+    fn blame(alloc: Global, _value: &Value) -> Result<JsonBlame, OutOfMemory> {
+        Ok(JsonBlame::wanted(alloc, WantedJson::Name))
     }
 }
 

@@ -1,3 +1,2 @@
-pub mod Blames
 pub mod Explained
 pub mod ClientData

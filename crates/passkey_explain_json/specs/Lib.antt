@@ -1,4 +1,2 @@
-pub mod Blame
-pub mod Blaming
 pub mod Explains
 pub mod ClientDataBlame

@@ -6,4 +6,4 @@ pub mod Faults
 pub mod Elements
 pub mod MapsBack
 pub mod Tables
-pub mod Looks
+pub mod Blames

@@ -10,7 +10,7 @@ use Rattle.passkey_json.proofs.Faults.{first_fault}
 use Rattle.passkey_json.proofs.Looking.{standing}
 use Rattle.passkey_json.specs.Fault.{Fault, Gives}
 use Rattle.passkey_json.specs.Members.{◌>>=◌, Object, object_of, takes_in, Member, MemberTakes, in_object, member, one_of, record_kind, takes_at, under}
-use Rattle.passkey_json.specs.Look.{entry_of}
+use Rattle.passkey_json.specs.Shape.{entry_of}
 use Rattle.passkey_json.specs.Shape.{Entry}
 use Rattle.passkey_json.specs.Table.{AreBack, TakeNothing, takes_of, BackFrom, IsBack, JsonMember, PlainTable, are_distinct, copied, distinct, either, either_name, entries, has_number, is_other, is_other_apart, looked, members_in, encoded, encoded_from, put_found, read_all, read_from, rows_of, table_json, take_any, takes_either, takes_from, uses}
 use Rattle.passkey_json.specs.Written.{EncodedMember, ReadsBack, are_apart, at_name, put_if, put_rows, written}

@@ -177,10 +177,10 @@ element_found t whole n no_items p finds e = absurd cc
 element_found t whole n (item x xs) p finds e =
     by_test (element_found t whole (suc n) xs p (λ k j is. finds (suc k) j (omega arith))) (t.accepts x) refl e where
       by_test : (first_element t (suc n) xs ≡ Some p → IsFound t whole p) → (b : Bool) → t.accepts x ≡ b
-          → (if b then first_element t (suc n) xs else Some (part (element n) 0 x t)) ≡ Some p → IsFound t whole p
+          → (if b then first_element t (suc n) xs else Some (part (element n) x t)) ≡ Some p → IsFound t whole p
       by_test later true a e = later e
       by_test later false a e =
-          let same : part (element n) 0 x t ≡ p = cc in
+          let same : part (element n) x t ≡ p = cc in
           subst (λ (q : Part). IsFound t whole q) same
           (record { leads = sym (finds 0 n (omega arith)); refused = a; is = refl })
 
@@ -191,10 +191,10 @@ member_found t whole no_members p finds e = absurd cc
 member_found t whole (member l x ms) p finds e =
     by_test (member_found t whole ms p (λ name y has. finds name y (inr has))) (t.accepts x) refl e where
       by_test : (first_member t ms ≡ Some p → IsFound t whole p) → (b : Bool) → t.accepts x ≡ b
-          → (if b then first_member t ms else Some (part (named l) 0 x t)) ≡ Some p → IsFound t whole p
+          → (if b then first_member t ms else Some (part (named l) x t)) ≡ Some p → IsFound t whole p
       by_test later true a e = later e
       by_test later false a e =
-          let same : part (named l) 0 x t ≡ p = cc in
+          let same : part (named l) x t ≡ p = cc in
           subst (λ (q : Part). IsFound t whole q) same
           (record { leads = finds l x (inl (refl, refl)); refused = a; is = refl })
 

@@ -1,7 +1,7 @@
 -- Contracts' views of objects and members, and the result of decoding them.
 use Rattle.std.specs.Prelude.{◌≡◌, Result, Ok, Err, option_map}
 use Rattle.passkey_json.specs.Fault.{Fault, Gives}
-use Rattle.passkey_json.specs.Look.{IsSeen}
+use Rattle.passkey_json.specs.Blame.{Answered}
 use Rattle.passkey_json.specs.Members.{Object, Member}
 use Rattle.passkey_json.specs.Shape.{Shape}
 use Rattle.passkey_json.specs.declared.json_fault.JsonFault.{JsonFault}
@@ -20,9 +20,9 @@ names_of o name = get name (view o.value.now)
 abbrev pub found : MemberHeld → Member
 found m = record { name = m.name.now; value = option_map (λ v. view v.now) m.value }
 
--- The type that the member is decoded as was looked at, if there is a way into it, and a value.
-abbrev pub HasLooked : Shape → MemberHeld → MemberHeld → Type 0
-HasLooked s old new = IsSeen s (option_map (λ w. w.now) old.way) (found old).value new.look
+-- What is to blame by the type that the member is decoded as was said, if it was asked.
+abbrev pub HasAnswered : Shape → MemberHeld → MemberHeld → Type 0
+HasAnswered s old new = Answered s old.is_asked (found old).value new.blame
 
 -- The same as `Gives`, for the view of a value.
 abbrev pub GivesAs : {A M : Type 0} → Type 0 → (A → M) → Result M Fault → Result A JsonFault → Type 0

@@ -3,7 +3,7 @@ pub mod Names
 pub mod Kind
 pub mod Members
 pub mod Shape
-pub mod Look
+pub mod Blame
 pub mod Held
 pub mod Written
 pub mod JsonText

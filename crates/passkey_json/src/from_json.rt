@@ -1,15 +1,15 @@
 //! Values that are decoded from JSON values.
-ghost use Rattle.std.specs.Option.{option_and_then};
 ghost use Rattle.std.specs.Prelude.{◌≡◌, Bool, false, IfOk, Option};
+ghost use Rattle.passkey_json.specs.Along.{accepts};
 ghost use Rattle.passkey_json.specs.Kind.{Answers, algorithm, truth, text, whole, numeral, byte, word, optional, is_text};
-ghost use Rattle.passkey_json.specs.Look.{Looks, LooksAs, tested};
-ghost use Rattle.passkey_json.specs.Shape.{Shape, leaf, part_of, reached};
+ghost use Rattle.passkey_json.specs.Blame.{Blames};
+ghost use Rattle.passkey_json.specs.Shape.{Shape, leaf};
 ghost use Rattle.passkey_json.specs.declared.wanted.WantedJson.TheVariants as want;
 ghost use Rattle.serde_json.specs.Data.{Data};
 ghost use Rattle.serde_json.specs.View.{view};
 
+use crate::blame::JsonBlame;
 use crate::json_refusal::JsonRefusal;
-use crate::look::{Look, look_at_leaf, looked};
 use crate::wanted::WantedJson;
 use passkey_bytes::Text;
 use passkey_iana::{Algorithm, EnumI64};
@@ -35,24 +35,21 @@ pub trait FromJson: Drop {
     /// What it is decoded from, part by part.
     ghost shape: { Shape };
 
-    /// Returns what the type is decoded from, and whether it accepts the JSON value. Returns
-    /// `OutOfMemory` if an allocation fails.
-    fn look(alloc: Global, value: &Value) -> Result<Look, OutOfMemory>
-        ensures { IfOk result (LooksAs (tested kind shape) (view value.now)) };
+    /// Returns what is to blame if the type refuses the JSON value: the innermost value that is
+    /// refused, and why. If the type accepts the value, what is returned is to blame for nothing.
+    /// Returns `OutOfMemory` if an allocation fails.
+    fn blame(alloc: Global, value: &Value) -> Result<JsonBlame, OutOfMemory>
+        ensures { IfOk result (Blames shape (view value.now)) };
+}
 
-    /// The same for a part of the type: the elements of a list and the members of a map, by any
-    /// number, or the row of a record with this number; and then for the part of that to which the
-    /// rest of the way leads. Nothing is promised for a way that leads nowhere, such as any for a
-    /// type without parts.
-    fn look_into(
-        _alloc: Global,
-        _number: u8,
-        _rest: &[u8],
-        _value: &Value,
-    ) -> Result<Look, OutOfMemory>
-        ensures { Looks (option_and_then (reached _rest.now) (part_of _number shape)) (view _value.now) result }
-    {
-        Err(OutOfMemory)
+/// Returns whether the type accepts the JSON value. Returns `OutOfMemory` if an allocation fails.
+pub(crate) fn is_accepted<T: FromJson>(alloc: Global, value: &Value) -> Result<bool, OutOfMemory>
+    ensures { IfOk result (λ b. b ≡ accepts T.kind (view value.now)) }
+{
+    match T::from_value(alloc, value) {
+        Ok(_) => Ok(true),
+        Err(JsonRefusal::Refused) => Ok(false),
+        Err(JsonRefusal::OutOfMemory) => Err(OutOfMemory),
     }
 }
 
@@ -76,8 +73,8 @@ impl FromJson for bool {
         value.as_bool().ok_or(JsonRefusal::Refused)
     }
 
-    fn look(alloc: Global, value: &Value) -> Result<Look, OutOfMemory> {
-        look_at_leaf(bool::from_value(alloc, value), WantedJson::Boolean)
+    fn blame(alloc: Global, _value: &Value) -> Result<JsonBlame, OutOfMemory> {
+        Ok(JsonBlame::wanted(alloc, WantedJson::Boolean))
     }
 }
 
@@ -95,8 +92,8 @@ impl FromJson for Text {
         }
     }
 
-    fn look(alloc: Global, value: &Value) -> Result<Look, OutOfMemory> {
-        look_at_leaf(Text::from_value(alloc, value), WantedJson::Text)
+    fn blame(alloc: Global, _value: &Value) -> Result<JsonBlame, OutOfMemory> {
+        Ok(JsonBlame::wanted(alloc, WantedJson::Text))
     }
 }
 
@@ -112,8 +109,8 @@ impl FromJson for u8 {
         }
     }
 
-    fn look(alloc: Global, value: &Value) -> Result<Look, OutOfMemory> {
-        look_at_leaf(u8::from_value(alloc, value), WantedJson::Integer)
+    fn blame(alloc: Global, _value: &Value) -> Result<JsonBlame, OutOfMemory> {
+        Ok(JsonBlame::wanted(alloc, WantedJson::Integer))
     }
 }
 
@@ -130,8 +127,8 @@ impl FromJson for u32 {
         }
     }
 
-    fn look(alloc: Global, value: &Value) -> Result<Look, OutOfMemory> {
-        look_at_leaf(u32::from_value(alloc, value), WantedJson::Word)
+    fn blame(alloc: Global, _value: &Value) -> Result<JsonBlame, OutOfMemory> {
+        Ok(JsonBlame::wanted(alloc, WantedJson::Word))
     }
 }
 
@@ -144,8 +141,8 @@ impl FromJson for i64 {
         value.as_i64().ok_or(JsonRefusal::Refused)
     }
 
-    fn look(alloc: Global, value: &Value) -> Result<Look, OutOfMemory> {
-        look_at_leaf(i64::from_value(alloc, value), WantedJson::Integer)
+    fn blame(alloc: Global, _value: &Value) -> Result<JsonBlame, OutOfMemory> {
+        Ok(JsonBlame::wanted(alloc, WantedJson::Integer))
     }
 }
 
@@ -162,8 +159,8 @@ impl FromJson for Algorithm {
         }
     }
 
-    fn look(alloc: Global, value: &Value) -> Result<Look, OutOfMemory> {
-        look_at_leaf(Algorithm::from_value(alloc, value), WantedJson::Algorithm)
+    fn blame(alloc: Global, _value: &Value) -> Result<JsonBlame, OutOfMemory> {
+        Ok(JsonBlame::wanted(alloc, WantedJson::Algorithm))
     }
 }
 
@@ -181,17 +178,7 @@ impl<T: FromJson> FromJson for Option<T> {
         }
     }
 
-    fn look(alloc: Global, value: &Value) -> Result<Look, OutOfMemory> {
-        let look = T::look(alloc, value)?;
-        looked(<Option<T>>::from_value(alloc, value), look.form)
-    }
-
-    fn look_into(
-        alloc: Global,
-        number: u8,
-        rest: &[u8],
-        value: &Value,
-    ) -> Result<Look, OutOfMemory> {
-        T::look_into(alloc, number, rest, value)
+    fn blame(alloc: Global, value: &Value) -> Result<JsonBlame, OutOfMemory> {
+        T::blame(alloc, value)
     }
 }

@@ -1,17 +1,35 @@
 //! Lists of values.
-ghost use Rattle.std.specs.Prelude.{◌≡◌};
+ghost use Rattle.std.specs.Prelude.{◌≡◌, IfOk, option_map};
 ghost use Rattle.passkey_json.specs.Along.{accepted_shape, list_shape};
 ghost use Rattle.passkey_json.specs.Kind.{list, accepted, is_array};
+ghost use Rattle.passkey_json.specs.Shape.{element, first_element, part, tested};
+ghost use Rattle.serde_json.specs.View.{items_view, view};
 
-use crate::from_json::FromJson;
+use crate::blame::{JsonBlame, JsonStep};
+use crate::from_json::{FromJson, is_accepted};
 use crate::json_refusal::JsonRefusal;
-use crate::look::{Form, Look, look_along, looked};
-use crate::tolerated::Tolerated;
+use crate::wanted::WantedJson;
 use passkey_bytes::List;
 use passkey_memory::OutOfMemory;
 use serde_json::Value;
 use std::alloc::Global;
 use std::marker::Model;
+
+/// Returns the first of the elements that is refused, and its index.
+fn refused_element<'a, T: FromJson>(
+    alloc: Global,
+    elements: &'a [Value],
+) -> Result<Option<(usize, &'a Value)>, OutOfMemory>
+    ensures { IfOk result (λ o. option_map (λ e. part (element e.0) (view e.1.now) (tested T.kind T.shape)) o
+        ≡ first_element (tested T.kind T.shape) 0 (items_view elements.now)) }
+{
+    for (index, element) in elements.iter().enumerate() {
+        if !is_accepted::<T>(alloc, element)? {
+            return Ok(Some((index, element)));
+        }
+    }
+    Ok(None)
+}
 
 impl<T: FromJson> FromJson for List<T> {
     ghost kind = { list T.kind };
@@ -31,17 +49,13 @@ impl<T: FromJson> FromJson for List<T> {
         Ok(List::from(read))
     }
 
-    fn look(alloc: Global, value: &Value) -> Result<Look, OutOfMemory> {
-        looked(<List<T>>::from_value(alloc, value), Form::List)
-    }
-
-    fn look_into(
-        alloc: Global,
-        _number: u8,
-        rest: &[u8],
-        value: &Value,
-    ) -> Result<Look, OutOfMemory> {
-        look_along::<T>(alloc, rest, value)
+    fn blame(alloc: Global, value: &Value) -> Result<JsonBlame, OutOfMemory> {
+        if let Value::Array(elements) = value {
+            if let Some((index, element)) = refused_element::<T>(alloc, elements)? {
+                return T::blame(alloc, element)?.under(JsonStep::Element(index));
+            }
+        }
+        Ok(JsonBlame::wanted(alloc, WantedJson::Array))
     }
 }
 
@@ -89,16 +103,7 @@ impl<T: FromJson> FromJson for TolerantList<T> {
         Ok(TolerantList(List::from(read)))
     }
 
-    fn look(alloc: Global, value: &Value) -> Result<Look, OutOfMemory> {
-        looked(<TolerantList<T>>::from_value(alloc, value), Form::List)
-    }
-
-    fn look_into(
-        alloc: Global,
-        _number: u8,
-        rest: &[u8],
-        value: &Value,
-    ) -> Result<Look, OutOfMemory> {
-        look_along::<Tolerated<T>>(alloc, rest, value)
+    fn blame(alloc: Global, _value: &Value) -> Result<JsonBlame, OutOfMemory> {
+        Ok(JsonBlame::wanted(alloc, WantedJson::Array))
     }
 }

@@ -1,18 +1,18 @@
 //! Members of objects, and the ways to decode them.
-ghost use Rattle.std.specs.Prelude.{◌≡◌, Err, IsTrue, Some, option_map};
+ghost use Rattle.std.specs.Prelude.{◌≡◌, Err, IsTrue, Some, option_map, true};
 ghost use Rattle.passkey_json.specs.Along.{accepted_shape};
 ghost use Rattle.passkey_json.specs.Fault.{Gives};
-ghost use Rattle.passkey_json.specs.Held.{HasLooked, IsPlaced, IsUnlessRefused, found};
+ghost use Rattle.passkey_json.specs.Held.{HasAnswered, IsPlaced, IsUnlessRefused, found};
 ghost use Rattle.passkey_json.specs.Kind.{is_array};
 ghost use Rattle.passkey_json.specs.Members.{MemberTakes, under, fault_of, decoded_or_fault, required, or_default, if_present, tolerated, required_tolerated, accepted_list};
 ghost use Rattle.serde_json.specs.View.{view};
 
+use crate::blame::JsonBlame;
 use crate::floats::holds_float;
 use crate::from_json::FromJson;
 use crate::json_fault::JsonFault;
 use crate::json_refusal::JsonRefusal;
 use crate::list::TolerantList;
-use crate::look::Look;
 use passkey_bytes::List;
 use passkey_memory::OutOfMemory;
 use serde_json::Value;
@@ -72,9 +72,9 @@ pub struct Member<'a> {
     alloc: Global,
     name: &'static str,
     value: Option<&'a Value>,
-    // a way into the type that the member is decoded as, and what is found there
-    way: Option<&'a [u8]>,
-    look: Result<Look, OutOfMemory>,
+    // whether it is asked what is to blame in the value, and the answer
+    is_asked: bool,
+    blame: Result<JsonBlame, OutOfMemory>,
 }
 
 impl<'a> Member<'a> {
@@ -85,53 +85,51 @@ impl<'a> Member<'a> {
             alloc,
             name,
             value,
-            way: None,
-            look: Err(OutOfMemory),
+            is_asked: false,
+            blame: Err(OutOfMemory),
         }
     }
 
-    /// A member with this value and any name, into whose type the way leads.
-    pub(crate) fn looked_at(alloc: Global, way: &'a [u8], value: &'a Value) -> Member<'a>
+    /// A member with this value and any name, of which is asked what is to blame.
+    pub(crate) fn asked(alloc: Global, value: &'a Value) -> Member<'a>
         ensures value { (found result).value ≡ Some (view value.now) }
-        ensures way { option_map (λ w. w.now) result.way ≡ Some way.now }
+        ensures asked { result.is_asked ≡ true }
     {
         Member {
             alloc,
             name: "",
             value: Some(value),
-            way: Some(way),
-            look: Err(OutOfMemory),
+            is_asked: true,
+            blame: Err(OutOfMemory),
         }
     }
 
-    /// Returns what was found where the way leads.
-    pub(crate) fn seen(&self) -> Result<Look, OutOfMemory>
-        ensures { result ≡ self.now.look }
+    /// Returns what is to blame, if that was asked and the member was decoded.
+    pub(crate) fn into_blame(self) -> Result<JsonBlame, OutOfMemory>
+        ensures { result ≡ self.entry.blame }
     {
-        self.look
+        self.blame
     }
 
-    /// Looks at the type where the way leads, if there is a way.
-    fn look_at<T: FromJson>(&mut self)
+    /// Says what is to blame by the type that the member is decoded as, if that is asked.
+    fn answer<T: FromJson>(&mut self)
         ensures same { found self.new ≡ found self.old }
-        ensures looks { HasLooked T.shape self.old self.new }
+        ensures answers { HasAnswered T.shape self.old self.new }
     {
-        let (Some(way), Some(value)) = (self.way, self.value) else {
-            return;
-        };
-        self.look = match way.split_first() {
-            None => T::look(self.alloc, value),
-            Some((number, rest)) => T::look_into(self.alloc, *number, rest, value),
-        };
+        if self.is_asked {
+            if let Some(value) = self.value {
+                self.blame = T::blame(self.alloc, value);
+            }
+        }
     }
 
     /// Decodes a required member. Returns `Missing` if it is absent, and the fault of a rejected value.
     #[tactic(auto, unfolding(crate::specs::Members::required))]
     pub fn required<T: FromJson>(&mut self) -> Result<T, JsonFault>
         ensures gives { Gives (MemberTakes T.takes (found self.old)) (required T.kind (found self.old)) result }
-        ensures looks { HasLooked T.shape self.old self.new }
+        ensures answers { HasAnswered T.shape self.old self.new }
     {
-        self.look_at::<T>();
+        self.answer::<T>();
         match self.value {
             Some(value) => decoded_or_fault(self.alloc, self.name, value),
             None => Err(JsonFault::Missing(self.name)),
@@ -143,9 +141,9 @@ impl<'a> Member<'a> {
     pub fn or_default<T: FromJson>(&mut self, default: T) -> Result<T, JsonFault>
         ensures gives { Gives (MemberTakes T.takes (found self.old)) (or_default default T.kind (found self.old))
             result }
-        ensures looks { HasLooked T.shape self.old self.new }
+        ensures answers { HasAnswered T.shape self.old self.new }
     {
-        self.look_at::<T>();
+        self.answer::<T>();
         match self.value {
             Some(value) => decoded_or_fault(self.alloc, self.name, value),
             None => Ok(default),
@@ -156,9 +154,9 @@ impl<'a> Member<'a> {
     #[tactic(auto, unfolding(crate::specs::Members::if_present))]
     pub fn if_present<T: FromJson>(&mut self) -> Result<Option<T>, JsonFault>
         ensures gives { Gives (MemberTakes T.takes (found self.old)) (if_present T.kind (found self.old)) result }
-        ensures looks { HasLooked T.shape self.old self.new }
+        ensures answers { HasAnswered T.shape self.old self.new }
     {
-        self.look_at::<T>();
+        self.answer::<T>();
         match self.value {
             Some(value) => Ok(Some(decoded_or_fault(self.alloc, self.name, value)?)),
             None => Ok(None),
@@ -171,9 +169,9 @@ impl<'a> Member<'a> {
     pub fn tolerated<T: FromJson>(&mut self, default: T) -> Result<T, JsonFault>
         ensures gives { Gives (MemberTakes T.takes (found self.old)) (tolerated default T.kind (found self.old))
             result }
-        ensures looks { HasLooked T.shape self.old self.new }
+        ensures answers { HasAnswered T.shape self.old self.new }
     {
-        self.look_at::<T>();
+        self.answer::<T>();
         let Some(value) = self.value else {
             return Ok(default);
         };
@@ -186,7 +184,7 @@ impl<'a> Member<'a> {
     pub fn required_tolerated<T: FromJson>(&mut self, default: T) -> Result<T, JsonFault>
         ensures gives { Gives (MemberTakes T.takes (found self.old))
             (required_tolerated default T.kind (found self.old)) result }
-        ensures looks { HasLooked T.shape self.old self.new }
+        ensures answers { HasAnswered T.shape self.old self.new }
     {
         if self.value.is_none() {
             return Err(JsonFault::Missing(self.name));
@@ -200,9 +198,9 @@ impl<'a> Member<'a> {
     #[tactic(auto, unfolding(crate::specs::Members::accepted_list))]
     pub fn accepted_list<T: FromJson>(&mut self) -> Result<Option<List<T>>, JsonFault>
         ensures gives { Gives (MemberTakes is_array (found self.old)) (accepted_list T.kind (found self.old)) result }
-        ensures looks { HasLooked (accepted_shape T.shape) self.old self.new }
+        ensures answers { HasAnswered (accepted_shape T.shape) self.old self.new }
     {
-        self.look_at::<TolerantList<T>>();
+        self.answer::<TolerantList<T>>();
         let Some(value) = self.value else {
             return Ok(None);
         };

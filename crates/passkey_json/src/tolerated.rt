@@ -1,9 +1,9 @@
 //! Values that may be rejected.
 ghost use Rattle.passkey_json.specs.Kind.{tolerated};
 
+use crate::blame::JsonBlame;
 use crate::from_json::FromJson;
 use crate::json_refusal::JsonRefusal;
-use crate::look::Look;
 use passkey_memory::OutOfMemory;
 use serde_json::Value;
 use std::alloc::Global;
@@ -37,20 +37,7 @@ impl<T: FromJson> FromJson for Tolerated<T> {
         }
     }
 
-    fn look(alloc: Global, value: &Value) -> Result<Look, OutOfMemory> {
-        let look = T::look(alloc, value)?;
-        Ok(Look {
-            is_accepted: true,
-            form: look.form,
-        })
-    }
-
-    fn look_into(
-        alloc: Global,
-        number: u8,
-        rest: &[u8],
-        value: &Value,
-    ) -> Result<Look, OutOfMemory> {
-        T::look_into(alloc, number, rest, value)
+    fn blame(alloc: Global, value: &Value) -> Result<JsonBlame, OutOfMemory> {
+        T::blame(alloc, value)
     }
 }
