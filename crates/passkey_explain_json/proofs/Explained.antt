@@ -15,7 +15,7 @@ use Rattle.passkey_explain_json.specs.Explains.{IsExplained}
 use Rattle.passkey_json.specs.declared.blame.JsonBlame.{JsonBlame}
 
 -- what is blamed is where the path leads
-leads_of : (path : List Step) (why : Reason) (s : Shape) (d : Data) → IsBlamed path why s d → Leads path s d
+pub leads_of : (path : List Step) (why : Reason) (s : Shape) (d : Data) → IsBlamed path why s d → Leads path s d
 leads_of [] why s d b = tt
 leads_of (t ∷ ts) why s d b = (b.0, (b.1.0, (b.1.1.0, leads_of ts why b.0.as_part.shape b.0.value b.1.1.1)))
 

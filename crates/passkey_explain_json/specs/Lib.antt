@@ -1,2 +1,3 @@
 pub mod Explains
+pub mod LeftOut
 pub mod ClientDataBlame

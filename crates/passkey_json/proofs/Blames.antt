@@ -3,9 +3,10 @@ use Rattle.std.proofs.Common.{◌≡◌, ◌∙◌, ◌==◌, ℕ, suc, Bool, tr
 use Rattle.std.proofs.lemmas.Bool.{eq-eqb}
 use Rattle.std.specs.Prelude.{IfSome}
 use Rattle.std.specs.Str.{bytes_eq}
-use Rattle.passkey_json.specs.Along.{accepted_shape}
+use Rattle.passkey_json.specs.Along.{accepted_shape, tolerant_shape}
 use Rattle.passkey_json.specs.Blame.{Blames, BlamesPart, IsBlamed, fault_reason, path_of, reason_of, step_of, wanted}
 use Rattle.passkey_json.specs.Fault.{Fault}
+use Rattle.passkey_json.specs.Kind.{Kind}
 use Rattle.passkey_json.specs.Shape.{Entry, Part, Rows, Shape, Step, Tested, decoded_as, entries_in, entry_at, entry_named, entry_of, faulty_row, first_element, named, part, present_in, record_of, row_at, row_in, within}
 use Rattle.passkey_json.specs.Members.{in_object}
 use Rattle.passkey_json.specs.Table.{JsonMember, PlainTable, entries, members_in, rows_in, shape_from, table_shape}
@@ -38,19 +39,30 @@ none_refused : (s : Shape) (n : ℕ) (ds : Items) → first_element (record { ac
 none_refused s n no_items = refl
 none_refused s n (item d ds) = none_refused s (suc n) ds
 
-none_within : (s : Shape) (d : Data) → within (accepted_shape s) d ≡ None
-none_within s (array ds) = none_refused s 0 ds
-none_within s null = refl
-none_within s (boolean b) = refl
-none_within s (number n) = refl
-none_within s (string t) = refl
-none_within s (object ms) = refl
+none_within : {A : Type 0} (kind : Kind A) (s : Shape) (d : Data) → within (accepted_shape kind s) d ≡ None
+none_within kind s (array ds) = none_refused (tolerant_shape kind s) 0 ds
+none_within kind s null = refl
+none_within kind s (boolean b) = refl
+none_within kind s (number n) = refl
+none_within kind s (string t) = refl
+none_within kind s (object ms) = refl
 
-pub accepted_blames : (s : Shape) (d : Data) (b : JsonBlame) → path_of b ≡ [] → b.reason ≡ reason.Wanted want.Array
-    → Blames (accepted_shape s) d b
-accepted_blames s d b empty why =
-    subst (λ (ts : List Step). IsBlamed ts (reason_of b.reason) (accepted_shape s) d) (sym empty)
-    (none_within s d, ap reason_of why)
+pub accepted_blames : {A : Type 0} (kind : Kind A) (s : Shape) (d : Data) (b : JsonBlame) → path_of b ≡ []
+    → b.reason ≡ reason.Wanted want.Array → Blames (accepted_shape kind s) d b
+accepted_blames kind s d b empty why =
+    subst (λ (ts : List Step). IsBlamed ts (reason_of b.reason) (accepted_shape kind s) d) (sym empty)
+    (none_within kind s d, ap reason_of why)
+
+-- ---- where any value is tolerated
+
+pub tolerant_blames : {A : Type 0} (kind : Kind A) (s : Shape) (d : Data) (r : Result JsonBlame NoMemory)
+    → IfOk r (Blames s d) → IfOk r (Blames (tolerant_shape kind s) d)
+tolerant_blames kind s d (Ok b) h = by_path (path_of b) h where
+  by_path : (ts : List Step) → IsBlamed ts (reason_of b.reason) s d
+      → IsBlamed ts (reason_of b.reason) (tolerant_shape kind s) d
+  by_path [] h = h
+  by_path (t ∷ ts) h = h
+tolerant_blames kind s d (Err e) h = tt
 
 -- ---- records
 

@@ -7,3 +7,4 @@ pub mod Elements
 pub mod MapsBack
 pub mod Tables
 pub mod Blames
+pub mod Dropping

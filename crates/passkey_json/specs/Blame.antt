@@ -1,7 +1,7 @@
 -- What in a JSON value is to blame for a refusal: where, and why.
-use Rattle.std.specs.Prelude.{◌≡◌, ℕ, Bool, true, List, [], ◌∷◌, map, Option, Some, None, Result, IfOk}
+use Rattle.std.specs.Prelude.{◌≡◌, ℕ, List, [], ◌∷◌, map, Option, Some, None}
 use Rattle.passkey_json.specs.Fault.{Fault, missing, repeated}
-use Rattle.passkey_json.specs.Shape.{Part, Shape, leaf, list, record_of, Step, named, element, within}
+use Rattle.passkey_json.specs.Shape.{Part, Shape, leaf, list, record_of, tolerant, Step, named, element, within}
 use Rattle.passkey_json.specs.declared.blame.JsonBlame.{JsonBlame}
 use Rattle.passkey_json.specs.declared.blame.JsonReason.{JsonReason}
 use Rattle.passkey_json.specs.declared.blame.JsonStep.{JsonStep}
@@ -10,7 +10,6 @@ use Rattle.passkey_json.specs.declared.blame.JsonReason.TheVariants as reason
 use Rattle.passkey_json.specs.declared.blame.JsonStep.TheVariants as code
 use Rattle.passkey_json.specs.declared.wanted.WantedJson.TheVariants as want
 use Rattle.passkey_json.specs.Shape as shape
-use Rattle.passkey_memory.specs.declared.OutOfMemory.{OutOfMemory as NoMemory}
 use Rattle.serde_json.specs.Data.{Data}
 
 -- it isn't what is wanted; or it is an object that lacks a member, or has it under two names
@@ -30,6 +29,7 @@ reason_at (leaf w) d = wanted w
 reason_at (list a s) d = wanted want.Array
 reason_at (shape.map a s) d = wanted want.Object
 reason_at (record_of fault rows) d = fault_reason (fault d)
+reason_at (tolerant keeps s) d = reason_at s d
 
 -- Each step leads to what the shape there blames within the value, and nothing within the last value is to blame.
 abbrev pub IsBlamed : List Step → Reason → Shape → Data → Type 0
@@ -61,8 +61,3 @@ abbrev pub BlamesPart : Option Part → JsonBlame → Type 0
 BlamesPart (Some p) b =
     (ts : List Step) × ((path_of b ≡ p.step ∷ ts) × IsBlamed ts (reason_of b.reason) p.as_part.shape p.value)
 BlamesPart None b = (path_of b ≡ []) × (reason_of b.reason ≡ wanted want.Object)
-
--- Asking what is to blame, if it was asked and there is a value.
-abbrev pub Answered : Shape → Bool → Option Data → Result JsonBlame NoMemory → Type 0
-Answered s true (Some d) result = IfOk result (Blames s d)
-Answered s _ _ result = Unit {0}

@@ -4,6 +4,7 @@ pub mod Kind
 pub mod Members
 pub mod Shape
 pub mod Blame
+pub mod Dropped
 pub mod Held
 pub mod Written
 pub mod JsonText

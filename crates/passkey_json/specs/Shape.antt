@@ -21,7 +21,7 @@ entry_of (code.Aliased number name other) = record { number = number; name = nam
 
 -- A JSON value as a whole, and what is wanted of it; an array, an object with any names, or a record. For the elements
 -- of an array, the members of an object and the row of each member: which of them are accepted, and their shape. Of a
--- record, the fault of decoding it from a JSON value. Rows are a list, written out because a data type can't contain a
+-- record, the fault of decoding it from a JSON value. Where any value is tolerated, which of them are kept. Rows are a list, written out because a data type can't contain a
 -- list of itself.
 mutual
   pub data Shape : Type 0 where
@@ -29,6 +29,7 @@ mutual
     list : (Data → Bool) → Shape → Shape
     map : (Data → Bool) → Shape → Shape
     record_of : (Data → Option Fault) → Rows → Shape
+    tolerant : (Data → Bool) → Shape → Shape
 
   pub data Rows : Type 0 where
     no_rows : Rows
@@ -122,3 +123,4 @@ within (list a s) d = None
 within (map a s) (object ms) = first_member (record { accepts = a; shape = s }) ms
 within (map a s) d = None
 within (record_of fault rows) d = faulty_row rows (fault d) d
+within (tolerant keeps s) d = within s d

@@ -89,6 +89,17 @@ fn write_step<W: fmt::Write>(
     }
 }
 
+/// Writes the steps of a path.
+pub(crate) fn write_path<W: fmt::Write>(
+    f: &mut fmt::Formatter<W>,
+    path: &[JsonStep],
+) -> fmt::Result {
+    for (index, step) in path.iter().enumerate() {
+        write_step(f, index == 0, step)?;
+    }
+    Ok(())
+}
+
 impl fmt::Display for JsonReason {
     fn fmt<W: fmt::Write>(&self, f: &mut fmt::Formatter<W>) -> fmt::Result {
         match self {
@@ -101,9 +112,7 @@ impl fmt::Display for JsonReason {
 
 impl fmt::Display for JsonBlame {
     fn fmt<W: fmt::Write>(&self, f: &mut fmt::Formatter<W>) -> fmt::Result {
-        for (index, step) in self.path.iter().enumerate() {
-            write_step(f, index == 0, step)?;
-        }
+        write_path(f, self.path.as_slice())?;
         if !self.path.is_empty() {
             f.write_str(": ")?;
         }

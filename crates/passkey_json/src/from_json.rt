@@ -3,12 +3,14 @@ ghost use Rattle.std.specs.Prelude.{◌≡◌, Bool, false, IfOk, Option};
 ghost use Rattle.passkey_json.specs.Along.{accepts};
 ghost use Rattle.passkey_json.specs.Kind.{Answers, algorithm, truth, text, whole, numeral, byte, word, optional, is_text};
 ghost use Rattle.passkey_json.specs.Blame.{Blames};
+ghost use Rattle.passkey_json.specs.Dropped.{Drops};
 ghost use Rattle.passkey_json.specs.Shape.{Shape, leaf};
 ghost use Rattle.passkey_json.specs.declared.wanted.WantedJson.TheVariants as want;
 ghost use Rattle.serde_json.specs.Data.{Data};
 ghost use Rattle.serde_json.specs.View.{view};
 
 use crate::blame::JsonBlame;
+use crate::dropped::DroppedValue;
 use crate::json_refusal::JsonRefusal;
 use crate::wanted::WantedJson;
 use passkey_bytes::Text;
@@ -40,6 +42,13 @@ pub trait FromJson: Drop {
     /// Returns `OutOfMemory` if an allocation fails.
     fn blame(alloc: Global, value: &Value) -> Result<JsonBlame, OutOfMemory>
         ensures { IfOk result (Blames shape (view value.now)) };
+
+    /// Lists the values that are left out of the JSON value where the type tolerates any value: an
+    /// element of a `TolerantList`, or the value of a member, that would be refused otherwise. Their
+    /// order is that of the elements and of the record's members. Returns `OutOfMemory` if an
+    /// allocation fails.
+    fn dropped(alloc: Global, value: &Value) -> Result<Vec<DroppedValue>, OutOfMemory>
+        ensures { IfOk result (λ v. Drops shape (view value.now) v.items) };
 }
 
 /// Returns whether the type accepts the JSON value. Returns `OutOfMemory` if an allocation fails.
@@ -76,6 +85,10 @@ impl FromJson for bool {
     fn blame(alloc: Global, _value: &Value) -> Result<JsonBlame, OutOfMemory> {
         Ok(JsonBlame::wanted(alloc, WantedJson::Boolean))
     }
+
+    fn dropped(alloc: Global, _value: &Value) -> Result<Vec<DroppedValue>, OutOfMemory> {
+        Ok(Vec::new(alloc))
+    }
 }
 
 impl FromJson for Text {
@@ -95,6 +108,10 @@ impl FromJson for Text {
     fn blame(alloc: Global, _value: &Value) -> Result<JsonBlame, OutOfMemory> {
         Ok(JsonBlame::wanted(alloc, WantedJson::Text))
     }
+
+    fn dropped(alloc: Global, _value: &Value) -> Result<Vec<DroppedValue>, OutOfMemory> {
+        Ok(Vec::new(alloc))
+    }
 }
 
 impl FromJson for u8 {
@@ -111,6 +128,10 @@ impl FromJson for u8 {
 
     fn blame(alloc: Global, _value: &Value) -> Result<JsonBlame, OutOfMemory> {
         Ok(JsonBlame::wanted(alloc, WantedJson::Integer))
+    }
+
+    fn dropped(alloc: Global, _value: &Value) -> Result<Vec<DroppedValue>, OutOfMemory> {
+        Ok(Vec::new(alloc))
     }
 }
 
@@ -130,6 +151,10 @@ impl FromJson for u32 {
     fn blame(alloc: Global, _value: &Value) -> Result<JsonBlame, OutOfMemory> {
         Ok(JsonBlame::wanted(alloc, WantedJson::Word))
     }
+
+    fn dropped(alloc: Global, _value: &Value) -> Result<Vec<DroppedValue>, OutOfMemory> {
+        Ok(Vec::new(alloc))
+    }
 }
 
 impl FromJson for i64 {
@@ -143,6 +168,10 @@ impl FromJson for i64 {
 
     fn blame(alloc: Global, _value: &Value) -> Result<JsonBlame, OutOfMemory> {
         Ok(JsonBlame::wanted(alloc, WantedJson::Integer))
+    }
+
+    fn dropped(alloc: Global, _value: &Value) -> Result<Vec<DroppedValue>, OutOfMemory> {
+        Ok(Vec::new(alloc))
     }
 }
 
@@ -162,6 +191,10 @@ impl FromJson for Algorithm {
     fn blame(alloc: Global, _value: &Value) -> Result<JsonBlame, OutOfMemory> {
         Ok(JsonBlame::wanted(alloc, WantedJson::Algorithm))
     }
+
+    fn dropped(alloc: Global, _value: &Value) -> Result<Vec<DroppedValue>, OutOfMemory> {
+        Ok(Vec::new(alloc))
+    }
 }
 
 impl<T: FromJson> FromJson for Option<T> {
@@ -180,5 +213,9 @@ impl<T: FromJson> FromJson for Option<T> {
 
     fn blame(alloc: Global, value: &Value) -> Result<JsonBlame, OutOfMemory> {
         T::blame(alloc, value)
+    }
+
+    fn dropped(alloc: Global, value: &Value) -> Result<Vec<DroppedValue>, OutOfMemory> {
+        T::dropped(alloc, value)
     }
 }

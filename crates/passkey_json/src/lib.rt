@@ -4,6 +4,7 @@
 mod blame;
 mod bytes;
 mod bytes_form;
+mod dropped;
 mod extensions;
 mod floats;
 mod from_json;
@@ -31,6 +32,7 @@ mod written;
 
 pub use blame::{JsonBlame, JsonReason, JsonStep};
 pub use bytes_form::BytesForm;
+pub use dropped::DroppedValue;
 pub use extensions::{
     AuthenticationExtensionsClientInputs, AuthenticationExtensionsClientOutputs,
     AuthenticationExtensionsPrfInputs, CredentialPropertiesOutput,

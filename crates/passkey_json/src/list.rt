@@ -1,13 +1,16 @@
 //! Lists of values.
-ghost use Rattle.std.specs.Prelude.{◌≡◌, IfOk, option_map};
+ghost use Rattle.std.specs.Prelude.{◌≡◌, IfOk, map, option_map};
 ghost use Rattle.passkey_json.specs.Along.{accepted_shape, list_shape};
+ghost use Rattle.passkey_json.specs.Dropped.{AreDropped, dropped, dropped_list, told};
 ghost use Rattle.passkey_json.specs.Kind.{list, accepted, is_array};
 ghost use Rattle.passkey_json.specs.Shape.{element, first_element, part, tested};
 ghost use Rattle.serde_json.specs.View.{items_view, view};
 
 use crate::blame::{JsonBlame, JsonStep};
+use crate::dropped::{DroppedValue, append_as};
 use crate::from_json::{FromJson, is_accepted};
 use crate::json_refusal::JsonRefusal;
+use crate::tolerated::Tolerated;
 use crate::wanted::WantedJson;
 use passkey_bytes::List;
 use passkey_memory::OutOfMemory;
@@ -29,6 +32,23 @@ fn refused_element<'a, T: FromJson>(
         }
     }
     Ok(None)
+}
+
+/// Lists what is left out of the elements if the value is an array.
+fn dropped_elements<T: FromJson>(
+    alloc: Global,
+    value: &Value,
+) -> Result<Vec<DroppedValue>, OutOfMemory>
+    ensures { IfOk result (λ v. AreDropped (dropped_list (dropped T.shape) (view value.now)) (map told v.items)) }
+{
+    let mut dropped = Vec::new(alloc);
+    let Value::Array(elements) = value else {
+        return Ok(dropped);
+    };
+    for (index, element) in elements.iter().enumerate() {
+        append_as::<T>(alloc, &mut dropped, JsonStep::Element(index), element)?;
+    }
+    Ok(dropped)
 }
 
 impl<T: FromJson> FromJson for List<T> {
@@ -56,6 +76,10 @@ impl<T: FromJson> FromJson for List<T> {
             }
         }
         Ok(JsonBlame::wanted(alloc, WantedJson::Array))
+    }
+
+    fn dropped(alloc: Global, value: &Value) -> Result<Vec<DroppedValue>, OutOfMemory> {
+        dropped_elements::<T>(alloc, value)
     }
 }
 
@@ -86,7 +110,7 @@ impl<T: FromJson> FromJson for TolerantList<T> {
 
     ghost takes = { is_array };
 
-    ghost shape = { accepted_shape T.shape };
+    ghost shape = { accepted_shape T.kind T.shape };
 
     fn from_value(alloc: Global, value: &Value) -> Result<TolerantList<T>, JsonRefusal> {
         let Value::Array(elements) = value else {
@@ -105,5 +129,9 @@ impl<T: FromJson> FromJson for TolerantList<T> {
 
     fn blame(alloc: Global, _value: &Value) -> Result<JsonBlame, OutOfMemory> {
         Ok(JsonBlame::wanted(alloc, WantedJson::Array))
+    }
+
+    fn dropped(alloc: Global, value: &Value) -> Result<Vec<DroppedValue>, OutOfMemory> {
+        dropped_elements::<Tolerated<T>>(alloc, value)
     }
 }

@@ -1,6 +1,7 @@
 //! Maps from texts, decoded from JSON objects and encoded.
-ghost use Rattle.std.specs.Prelude.{◌≡◌, IfOk, option_map};
+ghost use Rattle.std.specs.Prelude.{◌≡◌, IfOk, map, option_map};
 ghost use Rattle.passkey_json.specs.Along.{map_shape};
+ghost use Rattle.passkey_json.specs.Dropped.{AreDropped, dropped, dropped_map, told};
 ghost use Rattle.passkey_json.specs.Kind.{Answers, is_object};
 ghost use Rattle.passkey_json.specs.MapKind.{map_from_texts, map_json};
 ghost use Rattle.passkey_json.specs.Shape.{first_member, named, part, tested};
@@ -9,6 +10,7 @@ ghost use Rattle.serde_json.specs.View.{members_view, view};
 
 use crate::blame::{JsonBlame, JsonStep};
 use crate::bytes_form::BytesForm;
+use crate::dropped::{DroppedValue, append_as};
 use crate::from_json::{FromJson, is_accepted};
 use crate::json_refusal::JsonRefusal;
 use crate::to_json::ToJson;
@@ -71,6 +73,18 @@ impl<T: FromJson> FromJson for Map<Text, T> {
             }
         }
         Ok(JsonBlame::wanted(alloc, WantedJson::Object))
+    }
+
+    fn dropped(alloc: Global, value: &Value) -> Result<Vec<DroppedValue>, OutOfMemory> {
+        let mut dropped = Vec::new(alloc);
+        let Value::Object(members) = value else {
+            return Ok(dropped);
+        };
+        for (name, member) in members.iter() {
+            let step = JsonStep::Named(Text::from_str(alloc, name.as_str())?);
+            append_as::<T>(alloc, &mut dropped, step, member)?;
+        }
+        Ok(dropped)
     }
 }
 

@@ -1,18 +1,20 @@
 //! Members of objects, and the ways to decode them.
-ghost use Rattle.std.specs.Prelude.{◌≡◌, Err, IsTrue, Some, option_map, true};
-ghost use Rattle.passkey_json.specs.Along.{accepted_shape};
+ghost use Rattle.std.specs.Prelude.{◌≡◌, Err, IsTrue, Some, option_map};
+ghost use Rattle.passkey_json.specs.Along.{accepted_shape, tolerant_shape};
 ghost use Rattle.passkey_json.specs.Fault.{Gives};
 ghost use Rattle.passkey_json.specs.Held.{HasAnswered, IsPlaced, IsUnlessRefused, found};
-ghost use Rattle.passkey_json.specs.Kind.{is_array};
+ghost use Rattle.passkey_json.specs.Kind.{accepted, is_array};
 ghost use Rattle.passkey_json.specs.Members.{MemberTakes, under, fault_of, decoded_or_fault, required, or_default, if_present, tolerated, required_tolerated, accepted_list};
 ghost use Rattle.serde_json.specs.View.{view};
 
 use crate::blame::JsonBlame;
+use crate::dropped::DroppedValue;
 use crate::floats::holds_float;
 use crate::from_json::FromJson;
 use crate::json_fault::JsonFault;
 use crate::json_refusal::JsonRefusal;
 use crate::list::TolerantList;
+use crate::tolerated::Tolerated;
 use passkey_bytes::List;
 use passkey_memory::OutOfMemory;
 use serde_json::Value;
@@ -63,6 +65,15 @@ fn unless_refused<T: Drop>(read: Result<T, JsonRefusal>, default: T) -> Result<T
     }
 }
 
+/// What is asked of a member's value, by the type that it is decoded as.
+#[derive(Clone, Copy)]
+pub(crate) enum Question {
+    /// What in it is to blame.
+    Blame,
+    /// What is left out of it.
+    Dropped,
+}
+
 /// A member of an object, which may be absent. Each way to decode it returns `OutOfMemory` if an
 /// allocation fails, which can only happen for a value that takes memory to decode. If a value is
 /// rejected for which there is no default, the fault is `Float` if the value contains a float, and
@@ -72,9 +83,10 @@ pub struct Member<'a> {
     alloc: Global,
     name: &'static str,
     value: Option<&'a Value>,
-    // whether it is asked what is to blame in the value, and the answer
-    is_asked: bool,
+    // what is asked of the value, and the answers
+    question: Option<Question>,
     blame: Result<JsonBlame, OutOfMemory>,
+    dropped: Result<Vec<DroppedValue>, OutOfMemory>,
 }
 
 impl<'a> Member<'a> {
@@ -85,22 +97,24 @@ impl<'a> Member<'a> {
             alloc,
             name,
             value,
-            is_asked: false,
+            question: None,
             blame: Err(OutOfMemory),
+            dropped: Err(OutOfMemory),
         }
     }
 
-    /// A member with this value and any name, of which is asked what is to blame.
-    pub(crate) fn asked(alloc: Global, value: &'a Value) -> Member<'a>
+    /// A member with this value and any name, of which this is asked.
+    pub(crate) fn asked(alloc: Global, question: Question, value: &'a Value) -> Member<'a>
         ensures value { (found result).value ≡ Some (view value.now) }
-        ensures asked { result.is_asked ≡ true }
+        ensures asked { result.question ≡ Some question }
     {
         Member {
             alloc,
             name: "",
             value: Some(value),
-            is_asked: true,
+            question: Some(question),
             blame: Err(OutOfMemory),
+            dropped: Err(OutOfMemory),
         }
     }
 
@@ -111,15 +125,24 @@ impl<'a> Member<'a> {
         self.blame
     }
 
-    /// Says what is to blame by the type that the member is decoded as, if that is asked.
+    /// Returns what is left out, if that was asked and the member was decoded.
+    pub(crate) fn into_dropped(self) -> Result<Vec<DroppedValue>, OutOfMemory>
+        ensures { result ≡ self.entry.dropped }
+    {
+        self.dropped
+    }
+
+    /// Answers what is asked, by the type that the member is decoded as.
     fn answer<T: FromJson>(&mut self)
         ensures same { found self.new ≡ found self.old }
         ensures answers { HasAnswered T.shape self.old self.new }
     {
-        if self.is_asked {
-            if let Some(value) = self.value {
-                self.blame = T::blame(self.alloc, value);
-            }
+        let (Some(question), Some(value)) = (self.question, self.value) else {
+            return;
+        };
+        match question {
+            Question::Blame => self.blame = T::blame(self.alloc, value),
+            Question::Dropped => self.dropped = T::dropped(self.alloc, value),
         }
     }
 
@@ -169,9 +192,9 @@ impl<'a> Member<'a> {
     pub fn tolerated<T: FromJson>(&mut self, default: T) -> Result<T, JsonFault>
         ensures gives { Gives (MemberTakes T.takes (found self.old)) (tolerated default T.kind (found self.old))
             result }
-        ensures answers { HasAnswered T.shape self.old self.new }
+        ensures answers { HasAnswered (tolerant_shape T.kind T.shape) self.old self.new }
     {
-        self.answer::<T>();
+        self.answer::<Tolerated<T>>();
         let Some(value) = self.value else {
             return Ok(default);
         };
@@ -184,7 +207,7 @@ impl<'a> Member<'a> {
     pub fn required_tolerated<T: FromJson>(&mut self, default: T) -> Result<T, JsonFault>
         ensures gives { Gives (MemberTakes T.takes (found self.old))
             (required_tolerated default T.kind (found self.old)) result }
-        ensures answers { HasAnswered T.shape self.old self.new }
+        ensures answers { HasAnswered (tolerant_shape T.kind T.shape) self.old self.new }
     {
         if self.value.is_none() {
             return Err(JsonFault::Missing(self.name));
@@ -198,9 +221,9 @@ impl<'a> Member<'a> {
     #[tactic(auto, unfolding(crate::specs::Members::accepted_list))]
     pub fn accepted_list<T: FromJson>(&mut self) -> Result<Option<List<T>>, JsonFault>
         ensures gives { Gives (MemberTakes is_array (found self.old)) (accepted_list T.kind (found self.old)) result }
-        ensures answers { HasAnswered (accepted_shape T.shape) self.old self.new }
+        ensures answers { HasAnswered (tolerant_shape (accepted T.kind) (accepted_shape T.kind T.shape)) self.old self.new }
     {
-        self.answer::<TolerantList<T>>();
+        self.answer::<Tolerated<TolerantList<T>>>();
         let Some(value) = self.value else {
             return Ok(None);
         };

@@ -1,6 +1,8 @@
 //! Records whose members are one table, by which they are decoded and encoded.
 ghost use Rattle.std.specs.Prelude.{◌≡◌, false, IfOk, IfSome, IsTrue, OnOk, map, option_map};
 ghost use Rattle.passkey_json.specs.Blame.{Blames, BlamesPart};
+ghost use Rattle.passkey_json.specs.Dropped.{Adds, Drops, dropped_present};
+ghost use Rattle.passkey_json.specs.Dropped as spec;
 ghost use Rattle.passkey_json.specs.Fault.{Gives, IsFaultOf};
 ghost use Rattle.passkey_json.specs.Held.{GivesAs, HasAnswered, found, names_of};
 ghost use Rattle.passkey_json.specs.Members.{MemberTakes, in_object, record_kind, takes_in};
@@ -12,12 +14,13 @@ ghost use Rattle.serde_json.specs.Written.{has_float};
 
 use crate::blame::{JsonBlame, JsonReason, JsonStep};
 use crate::bytes_form::BytesForm;
+use crate::dropped::{DroppedValue, append_part};
 use crate::from_json::FromJson;
 use crate::json_encoder::{EncodeResult, JsonEncoder};
 use crate::json_fault::JsonFault;
 use crate::json_record::{JsonRecord, read_nested};
 use crate::json_refusal::JsonRefusal;
-use crate::member::Member;
+use crate::member::{Member, Question};
 use crate::object::Object;
 use crate::record_to_json::RecordToJson;
 use crate::row::Row;
@@ -50,7 +53,7 @@ pub trait PlainJsonRecord: Drop {
         ensures gives { GivesAs (MemberTakes (takes_row table number) (found member.old)) (λ _. self.new)
             (read_row table number (found member.old) self.old) result }
 
-        // The type that it is decoded as says what is to blame, if that is asked.
+        // What is asked of it is answered by the type that it is decoded as.
         ensures answers { IfSome (shape_row table number) (λ s. HasAnswered s member.old member.new) };
 
     /// Encodes the member of the row with this number. Returns `None` if it is absent, or if no row
@@ -184,10 +187,42 @@ fn blame_member<R: PlainJsonRecord>(
 ) -> Result<JsonBlame, OutOfMemory>
     ensures { IfSome (shape_row R.table number) (λ s. IfOk result (Blames s (view value.now))) }
 {
-    let mut member = Member::asked(alloc, value);
+    let mut member = Member::asked(alloc, Question::Blame, value);
     let put = R::blank(alloc).put(number, &mut member);
     drop(put);
     member.into_blame()
+}
+
+/// Lists what is left out of the value of the member of the row with this number.
+fn dropped_member<R: PlainJsonRecord>(
+    alloc: Global,
+    number: u8,
+    value: &Value,
+) -> Result<Vec<DroppedValue>, OutOfMemory>
+    ensures { IfSome (shape_row R.table number) (λ s. IfOk result (λ v. Drops s (view value.now) v.items)) }
+{
+    let mut member = Member::asked(alloc, Question::Dropped, value);
+    let put = R::blank(alloc).put(number, &mut member);
+    drop(put);
+    member.into_dropped()
+}
+
+/// Appends what is left out of the row's member, if it is present.
+fn append_row<R: PlainJsonRecord>(
+    alloc: Global,
+    dropped: &mut Vec<DroppedValue>,
+    row: &Row,
+    value: &Value,
+) -> Result<(), OutOfMemory>
+    ensures { IfSome (shape_row R.table (entry_of row.now).number) (λ s. OnOk result (Adds
+        (dropped_present (spec.dropped s) (present_in (entry_of row.now) (view value.now)))
+        dropped.old.items dropped.new.items)) }
+{
+    let Some((name, member)) = row.present(value) else {
+        return Ok(());
+    };
+    let part = dropped_member::<R>(alloc, row.number(), member)?;
+    append_part(alloc, dropped, &JsonStep::Member(name), part)
 }
 
 /// Returns what is to blame in the member with this name.
@@ -230,6 +265,14 @@ impl<R: PlainJsonRecord> FromJson for R {
             _ => JsonReason::Wanted(WantedJson::Object),
         };
         Ok(JsonBlame::whole(alloc, reason))
+    }
+
+    fn dropped(alloc: Global, value: &Value) -> Result<Vec<DroppedValue>, OutOfMemory> {
+        let mut dropped = Vec::new(alloc);
+        for row in R::rows() {
+            append_row::<R>(alloc, &mut dropped, row, value)?;
+        }
+        Ok(dropped)
     }
 }
 

@@ -6,6 +6,7 @@ ghost use Rattle.passkey_json.specs.Requirements.{attachment_name, attachment_ow
 
 use crate::blame::JsonBlame;
 use crate::bytes_form::BytesForm;
+use crate::dropped::DroppedValue;
 use crate::from_json::FromJson;
 use crate::json_refusal::JsonRefusal;
 use crate::names::{read_name, written_name};
@@ -59,6 +60,10 @@ impl FromJson for AuthenticatorAttachment {
 
     fn blame(alloc: Global, _value: &Value) -> Result<JsonBlame, OutOfMemory> {
         Ok(JsonBlame::wanted(alloc, WantedJson::Name))
+    }
+
+    fn dropped(alloc: Global, _value: &Value) -> Result<Vec<DroppedValue>, OutOfMemory> {
+        Ok(Vec::new(alloc))
     }
 }
 
@@ -116,6 +121,10 @@ impl FromJson for ResidentKeyRequirement {
 
     fn blame(alloc: Global, _value: &Value) -> Result<JsonBlame, OutOfMemory> {
         Ok(JsonBlame::wanted(alloc, WantedJson::Name))
+    }
+
+    fn dropped(alloc: Global, _value: &Value) -> Result<Vec<DroppedValue>, OutOfMemory> {
+        Ok(Vec::new(alloc))
     }
 }
 
@@ -175,6 +184,10 @@ impl FromJson for UserVerificationRequirement {
 
     fn blame(alloc: Global, _value: &Value) -> Result<JsonBlame, OutOfMemory> {
         Ok(JsonBlame::wanted(alloc, WantedJson::Name))
+    }
+
+    fn dropped(alloc: Global, _value: &Value) -> Result<Vec<DroppedValue>, OutOfMemory> {
+        Ok(Vec::new(alloc))
     }
 }
 

@@ -7,6 +7,7 @@ ghost use Rattle.serde_json.specs.Data.{boolean};
 
 use crate::blame::JsonBlame;
 use crate::bytes_form::BytesForm;
+use crate::dropped::DroppedValue;
 use crate::from_json::FromJson;
 use crate::json_refusal::JsonRefusal;
 use crate::to_json::ToJson;
@@ -66,6 +67,10 @@ impl FromJson for TruthText {
 
     fn blame(alloc: Global, _value: &Value) -> Result<JsonBlame, OutOfMemory> {
         Ok(JsonBlame::wanted(alloc, WantedJson::BooleanText))
+    }
+
+    fn dropped(alloc: Global, _value: &Value) -> Result<Vec<DroppedValue>, OutOfMemory> {
+        Ok(Vec::new(alloc))
     }
 }
 

@@ -5,7 +5,8 @@ ghost use Rattle.passkey_json.specs.Shape.{leaf};
 ghost use Rattle.passkey_json.specs.declared.wanted.WantedJson.TheVariants.{Name};
 
 use passkey_json::{
-    BytesForm, FromJson, JsonBlame, JsonRefusal, ToJson, WantedJson, read_name, written_name,
+    BytesForm, DroppedValue, FromJson, JsonBlame, JsonRefusal, ToJson, WantedJson, read_name,
+    written_name,
 };
 use passkey_memory::OutOfMemory;
 use passkey_webauthn::EnumNames;
@@ -58,6 +59,10 @@ impl FromJson for PublicKeyCredentialHints {
 
     fn blame(alloc: Global, _value: &Value) -> Result<JsonBlame, OutOfMemory> {
         Ok(JsonBlame::wanted(alloc, WantedJson::Name))
+    }
+
+    fn dropped(alloc: Global, _value: &Value) -> Result<Vec<DroppedValue>, OutOfMemory> {
+        Ok(Vec::new(alloc))
     }
 }
 
@@ -120,6 +125,10 @@ impl FromJson for AttestationConveyancePreference {
 
     fn blame(alloc: Global, _value: &Value) -> Result<JsonBlame, OutOfMemory> {
         Ok(JsonBlame::wanted(alloc, WantedJson::Name))
+    }
+
+    fn dropped(alloc: Global, _value: &Value) -> Result<Vec<DroppedValue>, OutOfMemory> {
+        Ok(Vec::new(alloc))
     }
 }
 
@@ -208,6 +217,10 @@ impl FromJson for AttestationStatementFormatIdentifiers {
 
     fn blame(alloc: Global, _value: &Value) -> Result<JsonBlame, OutOfMemory> {
         Ok(JsonBlame::wanted(alloc, WantedJson::Name))
+    }
+
+    fn dropped(alloc: Global, _value: &Value) -> Result<Vec<DroppedValue>, OutOfMemory> {
+        Ok(Vec::new(alloc))
     }
 }
 
