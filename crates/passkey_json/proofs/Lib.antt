@@ -7,4 +7,5 @@ pub mod Elements
 pub mod MapsBack
 pub mod Tables
 pub mod Blames
+pub mod BlameTexts
 pub mod Dropping

@@ -1,9 +1,11 @@
 pub mod Fault
+pub mod Wanted
 pub mod Names
 pub mod Kind
 pub mod Members
 pub mod Shape
 pub mod Blame
+pub mod BlameTexts
 pub mod Dropped
 pub mod Held
 pub mod Written

@@ -1,6 +1,8 @@
 //! What in a JSON value is to blame.
-ghost use Rattle.std.specs.Prelude.{◌≡◌, ◌∷◌, [], IfOk};
+ghost use Rattle.std.specs.Fmt.{DisplaysOnOk};
+ghost use Rattle.std.specs.Prelude.{◌≡◌, ◌∷◌, [], IfOk, Some};
 ghost use Rattle.passkey_json.specs.Blame.{path_of, step_of};
+ghost use Rattle.passkey_json.specs.BlameTexts.{blame_text, path_before, path_text, reason_text, step_text, steps_text};
 ghost use Rattle.passkey_json.specs.declared.blame.JsonReason.TheVariants.{Wanted};
 
 use crate::wanted::WantedJson;
@@ -76,7 +78,9 @@ fn write_step<W: fmt::Write>(
     f: &mut fmt::Formatter<W>,
     is_first: bool,
     step: &JsonStep,
-) -> fmt::Result {
+) -> fmt::Result
+    ensures { DisplaysOnOk W.write_str_gives f.old result (step_text is_first step.now) f.new }
+{
     match step {
         JsonStep::Element(index) => write!(f, "[{index}]"),
         JsonStep::Named(name) => write!(f, "[{name:?}]"),
@@ -89,18 +93,43 @@ fn write_step<W: fmt::Write>(
     }
 }
 
-/// Writes the steps of a path.
-pub(crate) fn write_path<W: fmt::Write>(
-    f: &mut fmt::Formatter<W>,
-    path: &[JsonStep],
-) -> fmt::Result {
-    for (index, step) in path.iter().enumerate() {
-        write_step(f, index == 0, step)?;
+/// Writes steps that follow another one.
+fn write_steps<W: fmt::Write>(f: &mut fmt::Formatter<W>, steps: &[JsonStep]) -> fmt::Result
+    ensures { DisplaysOnOk W.write_str_gives f.old result (steps_text steps.now) f.new }
+{
+    for step in steps {
+        write_step(f, false, step)?;
     }
     Ok(())
 }
 
+/// Writes the steps of a path.
+pub(crate) fn write_path<W: fmt::Write>(f: &mut fmt::Formatter<W>, path: &[JsonStep]) -> fmt::Result
+    ensures { DisplaysOnOk W.write_str_gives f.old result (path_text path.now) f.new }
+{
+    match path.split_first() {
+        Some((first, rest)) => {
+            write_step(f, true, first)?;
+            write_steps(f, rest)
+        }
+        None => Ok(()),
+    }
+}
+
+/// Writes a path, if there is one, before what is said of the value there.
+fn write_path_before<W: fmt::Write>(f: &mut fmt::Formatter<W>, path: &[JsonStep]) -> fmt::Result
+    ensures { DisplaysOnOk W.write_str_gives f.old result (path_before path.now) f.new }
+{
+    if path.is_empty() {
+        return Ok(());
+    }
+    write_path(f, path)?;
+    f.write_str(": ")
+}
+
 impl fmt::Display for JsonReason {
+    ghost output = { λ reason. Some (reason_text reason) };
+
     fn fmt<W: fmt::Write>(&self, f: &mut fmt::Formatter<W>) -> fmt::Result {
         match self {
             JsonReason::Wanted(wanted) => write!(f, "{wanted} is wanted"),
@@ -111,11 +140,10 @@ impl fmt::Display for JsonReason {
 }
 
 impl fmt::Display for JsonBlame {
+    ghost output = { blame_text };
+
     fn fmt<W: fmt::Write>(&self, f: &mut fmt::Formatter<W>) -> fmt::Result {
-        write_path(f, self.path.as_slice())?;
-        if !self.path.is_empty() {
-            f.write_str(": ")?;
-        }
+        write_path_before(f, self.path.as_slice())?;
         write!(f, "{}", self.reason)
     }
 }

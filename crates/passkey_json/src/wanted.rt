@@ -1,4 +1,6 @@
 //! What types want.
+ghost use Rattle.std.specs.Prelude.{Some};
+ghost use Rattle.passkey_json.specs.Wanted.{wanted_text};
 
 use std::fmt;
 
@@ -30,6 +32,8 @@ pub enum WantedJson {
 }
 
 impl fmt::Display for WantedJson {
+    ghost output = { λ wanted. Some (wanted_text wanted) };
+
     fn fmt<W: fmt::Write>(&self, f: &mut fmt::Formatter<W>) -> fmt::Result {
         f.write_str(match self {
             WantedJson::Boolean => "true or false",
