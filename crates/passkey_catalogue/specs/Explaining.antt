@@ -2,7 +2,7 @@
 use Rattle.std.specs.Prelude.{◌≡◌, true, is_ok, Option, None, Some, option_map}
 use Rattle.passkey_catalogue.specs.declared.explaining.RefusedJson.{RefusedJson}
 use Rattle.passkey_explain_json.specs.Explains.{IsExplained}
-use Rattle.passkey_explain_json.specs.declared.blame.JsonBlame.{JsonBlame}
+use Rattle.passkey_json.specs.declared.blame.JsonBlame.{JsonBlame}
 use Rattle.passkey_json.specs.Fault.{IsFaultOf}
 use Rattle.passkey_json.specs.Members.{in_object}
 use Rattle.passkey_json.specs.Table.{PlainTable, members_in}

@@ -1,6 +1,7 @@
 pub mod Catalogue
 pub mod ClientKinds
 pub mod CtapKinds
+pub mod Dropping
 pub mod Explaining
 pub mod JsonTexts
 pub mod Numbers

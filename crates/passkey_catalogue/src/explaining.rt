@@ -10,10 +10,11 @@ ghost use Rattle.serde_json.specs.View.{view};
 use crate::any_json_kind::AnyJsonKind;
 use crate::visiting::visit_json;
 use passkey_bytes::Text;
-use passkey_explain_json::{
-    JsonBlame, JsonExplanation, JsonReason, JsonStep, blame_json, explain_client_data, explain_json,
+use passkey_explain_json::{JsonExplanation, explain_client_data, explain_json};
+use passkey_json::{
+    FromJson, JsonBlame, JsonFault, JsonReason, JsonStep, PlainJsonRecord, ToJson, WantedJson,
+    holds_float,
 };
-use passkey_json::{FromJson, JsonFault, PlainJsonRecord, ToJson, WantedJson, holds_float};
 use passkey_memory::OutOfMemory;
 use passkey_run::{JsonVisitor, object_from};
 use passkey_webauthn_json::client_data::{ClientDataExtra, CollectedClientData};
@@ -144,7 +145,7 @@ impl<'a> JsonVisitor for Explaining<'a> {
         let Some(fault) = object_fault::<T>(self.alloc, name, self.value)? else {
             return Ok(None);
         };
-        let blame = Some(blame_json::<T>(self.alloc, self.value)?);
+        let blame = Some(T::blame(self.alloc, self.value)?);
         Ok(Some(RefusedJson { fault, blame }))
     }
 }

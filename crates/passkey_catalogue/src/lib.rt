@@ -9,6 +9,7 @@
 mod any_json_kind;
 mod client_kind;
 mod ctap_kind;
+mod dropping;
 mod explaining;
 mod form;
 mod key;
@@ -22,6 +23,7 @@ mod visiting;
 pub use any_json_kind::AnyJsonKind;
 pub use client_kind::ClientKind;
 pub use ctap_kind::CtapKind;
+pub use dropping::dropped_json_as;
 pub use explaining::{RefusedJson, explain_json_as};
 pub use form::Form;
 pub use kind::Kind;

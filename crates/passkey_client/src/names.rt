@@ -5,7 +5,7 @@ ghost use Rattle.passkey_json.specs.Shape.{leaf};
 ghost use Rattle.passkey_json.specs.declared.wanted.WantedJson.TheVariants.{Name};
 
 use passkey_json::{
-    BytesForm, FromJson, JsonRefusal, Look, ToJson, WantedJson, look_at_leaf, read_name,
+    BytesForm, DroppedValue, FromJson, JsonBlame, JsonRefusal, ToJson, WantedJson, read_name,
     written_name,
 };
 use passkey_memory::OutOfMemory;
@@ -69,11 +69,12 @@ impl FromJson for CredentialProtectionPolicy {
         read_name(value)
     }
 
-    fn look(alloc: Global, value: &Value) -> Result<Look, OutOfMemory> {
-        look_at_leaf(
-            CredentialProtectionPolicy::from_value(alloc, value),
-            WantedJson::Name,
-        )
+    fn blame(alloc: Global, _value: &Value) -> Result<JsonBlame, OutOfMemory> {
+        Ok(JsonBlame::wanted(alloc, WantedJson::Name))
+    }
+
+    fn dropped(alloc: Global, _value: &Value) -> Result<Vec<DroppedValue>, OutOfMemory> {
+        Ok(Vec::new(alloc))
     }
 }
 
@@ -135,11 +136,12 @@ impl FromJson for CredentialMediationRequirement {
         read_name(value)
     }
 
-    fn look(alloc: Global, value: &Value) -> Result<Look, OutOfMemory> {
-        look_at_leaf(
-            CredentialMediationRequirement::from_value(alloc, value),
-            WantedJson::Name,
-        )
+    fn blame(alloc: Global, _value: &Value) -> Result<JsonBlame, OutOfMemory> {
+        Ok(JsonBlame::wanted(alloc, WantedJson::Name))
+    }
+
+    fn dropped(alloc: Global, _value: &Value) -> Result<Vec<DroppedValue>, OutOfMemory> {
+        Ok(Vec::new(alloc))
     }
 }
 

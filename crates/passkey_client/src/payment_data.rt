@@ -182,17 +182,13 @@ impl ClientDataExtra for PaymentData {
 
     #[tactic(auto, unfolding(passkey_json::specs::Members::if_present))]
     fn from_object(object: &Object<'_>) -> Result<PaymentData, JsonFault> {
-        let mut payment = object.member("payment");
-        if is_creation(object.member("type").if_present()?) {
-            Ok(match payment.if_present()? {
-                Some(payment) => PaymentData::Registration(payment),
-                None => PaymentData::Absent,
-            })
+        let ty = object.member("type").if_present()?;
+        if is_creation(ty) {
+            let payment = object.member("payment").if_present()?;
+            Ok(payment.map_or(PaymentData::Absent, PaymentData::Registration))
         } else {
-            Ok(match payment.if_present()? {
-                Some(payment) => PaymentData::Confirmed(payment),
-                None => PaymentData::Absent,
-            })
+            let payment = object.member("payment").if_present()?;
+            Ok(payment.map_or(PaymentData::Absent, PaymentData::Confirmed))
         }
     }
 

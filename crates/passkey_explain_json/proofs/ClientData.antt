@@ -21,10 +21,10 @@ use Rattle.serde_json.specs.Find.{get, get_member}
 use Rattle.serde_json.specs.Written.{has_float, members_have_float}
 use Rattle.passkey_json.specs.Along.{accepts, HasMember, IsOnce, IsRefusedAt, value_along}
 use Rattle.passkey_json.specs.Shape.{Step, named}
-use Rattle.passkey_explain_json.specs.Blame.{path_of, reason_of, wanted}
+use Rattle.passkey_json.specs.Blame.{path_of, reason_of, wanted}
 use Rattle.passkey_explain_json.specs.ClientDataBlame.{plain_client_data, is_client_data, none_known, nothing_read, first_float, IsBlamedOrFloat, IsClientDataExplained, ExplainsUnknown}
 use Rattle.passkey_explain_json.specs.Explains.{IsExplained}
-use Rattle.passkey_explain_json.specs.declared.blame.JsonBlame.{JsonBlame}
+use Rattle.passkey_json.specs.declared.blame.JsonBlame.{JsonBlame}
 use Rattle.passkey_json.specs.declared.json_fault.JsonFault.TheVariants as fault
 use Rattle.passkey_json.specs.declared.wanted.WantedJson.TheVariants as want
 

@@ -1,3 +1,3 @@
-pub mod Blames
 pub mod Explained
+pub mod LeftOut
 pub mod ClientData

@@ -11,9 +11,8 @@ use Rattle.passkey_json.specs.declared.json_fault.JsonFault.{JsonFault}
 use Rattle.passkey_json.specs.declared.wanted.WantedJson.TheVariants as want
 use Rattle.serde_json.specs.Data.{Data, object, Members, no_members, member}
 use Rattle.serde_json.specs.Written.{has_float}
-use Rattle.passkey_explain_json.specs.Blame.{path_of, reason_of, wanted}
-use Rattle.passkey_explain_json.specs.Blaming.{IsBlamed}
-use Rattle.passkey_explain_json.specs.declared.blame.JsonBlame.{JsonBlame}
+use Rattle.passkey_json.specs.Blame.{Blames, path_of, reason_of, wanted}
+use Rattle.passkey_json.specs.declared.blame.JsonBlame.{JsonBlame}
 use Rattle.passkey_explain_json.specs.declared.explanation.JsonExplanation.{JsonExplanation}
 
 -- client data of which the caller knows no further member
@@ -46,7 +45,7 @@ IsFloatBlamed None b = ⊥
 -- The members that all client data has come first, and then the others.
 abbrev pub IsBlamedOrFloat : Bool → Data → JsonBlame → Type 0
 IsBlamedOrFloat true d b = IsFloatBlamed (unknown_float d) b
-IsBlamedOrFloat false d b = IsBlamed (path_of b) (reason_of b.reason) (table_shape fixed_members) d
+IsBlamedOrFloat false d b = Blames (table_shape fixed_members) d b
 
 -- Decoding client data from the JSON value has this fault, and this is to blame for it: the path leads to a value in
 -- the JSON value, and no client data is decoded from any JSON value in which it leads to that value.

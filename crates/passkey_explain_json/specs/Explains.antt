@@ -6,16 +6,15 @@ use Rattle.passkey_json.specs.Members.{in_object, record_kind}
 use Rattle.passkey_json.specs.Table.{PlainTable, members_in, table_shape}
 use Rattle.passkey_json.specs.declared.json_fault.JsonFault.{JsonFault}
 use Rattle.serde_json.specs.Data.{Data}
-use Rattle.passkey_explain_json.specs.Blame.{path_of, reason_of}
-use Rattle.passkey_explain_json.specs.Blaming.{IsBlamed}
-use Rattle.passkey_explain_json.specs.declared.blame.JsonBlame.{JsonBlame}
+use Rattle.passkey_json.specs.Blame.{Blames, path_of}
+use Rattle.passkey_json.specs.declared.blame.JsonBlame.{JsonBlame}
 use Rattle.passkey_explain_json.specs.declared.explanation.JsonExplanation.{JsonExplanation}
 
 -- Decoding the record from the JSON value has this fault, and this is to blame for it: the path leads to a value in the
 -- JSON value, and no record is decoded from any JSON value in which it leads to that value.
 pub record IsExplained {P : Type 0} (t : PlainTable P) (d : Data) (fault : JsonFault) (b : JsonBlame) : Type 0 where
   pub given : Gives ⊥ (in_object (members_in t) d) (Err fault)
-  pub blamed : IsBlamed (path_of b) (reason_of b.reason) (table_shape t) d
+  pub blamed : Blames (table_shape t) d b
   pub to_blame : IsOnce d → IsRefusedAt (accepts (record_kind (members_in t))) d (path_of b)
 
 -- The JSON value is decoded as the record, or explained.

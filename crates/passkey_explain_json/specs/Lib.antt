@@ -1,4 +1,3 @@
-pub mod Blame
-pub mod Blaming
 pub mod Explains
+pub mod LeftOut
 pub mod ClientDataBlame

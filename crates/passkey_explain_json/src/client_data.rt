@@ -3,10 +3,9 @@ ghost use Rattle.std.specs.Prelude.{◌≡◌, IfOk, None, option_map};
 ghost use Rattle.passkey_explain_json.specs.ClientDataBlame.{ExplainsClientData, ExplainsUnknown, first_float};
 ghost use Rattle.serde_json.specs.View.{members_view, view};
 
-use crate::blame::{JsonBlame, JsonReason, JsonStep};
 use crate::explanation::{JsonExplanation, explain_json};
 use passkey_bytes::Text;
-use passkey_json::{JsonFault, WantedJson, holds_float};
+use passkey_json::{JsonBlame, JsonFault, JsonReason, JsonStep, WantedJson, holds_float};
 use passkey_memory::OutOfMemory;
 use passkey_webauthn_json::client_data::{FixedMembers, is_fixed};
 use serde_json::{Map, Value};

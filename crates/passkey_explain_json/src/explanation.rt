@@ -3,9 +3,7 @@ ghost use Rattle.std.specs.Prelude.{IfOk};
 ghost use Rattle.passkey_explain_json.specs.Explains.{Explains};
 ghost use Rattle.serde_json.specs.View.{view};
 
-use crate::blame::JsonBlame;
-use crate::descent::blame_json;
-use passkey_json::{JsonFault, PlainJsonRecord, find_fault};
+use passkey_json::{FromJson, JsonBlame, JsonFault, PlainJsonRecord, find_fault};
 use passkey_memory::OutOfMemory;
 use serde_json::Value;
 use std::alloc::Global;
@@ -31,6 +29,6 @@ pub fn explain_json<R: PlainJsonRecord>(
     let Some(fault) = find_fault::<R>(alloc, value)? else {
         return Ok(None);
     };
-    let blame = blame_json::<R>(alloc, value)?;
+    let blame = R::blame(alloc, value)?;
     Ok(Some(JsonExplanation { fault, blame }))
 }

@@ -8,7 +8,7 @@ use crate::inspect::{push_names, push_report, with_line_feed};
 use crate::kind::{FOUND_JSON_KINDS, InspectKind, name_of};
 use crate::options::{Options, Output};
 use passkey_bytes::{Bytes, BytesFault};
-use passkey_catalogue::{RefusedJson, explain_json_as, rewrite_json};
+use passkey_catalogue::{RefusedJson, dropped_json_as, explain_json_as, rewrite_json};
 use passkey_cbor_text::diagnose::escape_controls;
 use passkey_memory::OutOfMemory;
 use passkey_run::{BytesKind, JsonKind, RunFault, parse_json};
@@ -79,7 +79,22 @@ fn push_client_data(out: &mut String, alloc: Global, value: &Value) -> Result<()
     }
 }
 
-/// Appends the JSON value, and what is in a credential's byte strings.
+/// Returns a line for each value that the kind leaves out of the JSON value, if it is one of JSON.
+fn left_out(alloc: Global, kind: InspectKind, value: &Value) -> Result<String, OutOfMemory> {
+    let mut out = String::new(alloc);
+    let Some(kind) = kind.as_json() else {
+        return Ok(out);
+    };
+    let dropped = dropped_json_as(alloc, kind, value)?;
+    for item in &dropped {
+        let line = format!(in alloc; "left out: {item}")?;
+        out.push_str(escape_controls(alloc, line.as_str())?.as_str())?;
+        out.push('\n')?;
+    }
+    Ok(out)
+}
+
+/// Appends the JSON value, what is left out of it, and what is in a credential's byte strings.
 fn push_record(
     out: &mut String,
     alloc: Global,
@@ -87,6 +102,7 @@ fn push_record(
     value: &Value,
 ) -> Result<(), OutOfMemory> {
     push_value(out, alloc, name_of(kind), value)?;
+    out.push_str(left_out(alloc, kind, value)?.as_str())?;
     if let InspectKind::Json(JsonKind::Created | JsonKind::Authenticated) = kind {
         push_client_data(out, alloc, value)?;
         let object = "/response/attestationObject";

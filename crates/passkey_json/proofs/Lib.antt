@@ -6,4 +6,6 @@ pub mod Faults
 pub mod Elements
 pub mod MapsBack
 pub mod Tables
-pub mod Looks
+pub mod Blames
+pub mod BlameTexts
+pub mod Dropping

@@ -10,9 +10,9 @@ use Rattle.passkey_json.proofs.Faults.{first_fault}
 use Rattle.passkey_json.proofs.Looking.{standing}
 use Rattle.passkey_json.specs.Fault.{Fault, Gives}
 use Rattle.passkey_json.specs.Members.{◌>>=◌, Object, object_of, takes_in, Member, MemberTakes, in_object, member, one_of, record_kind, takes_at, under}
-use Rattle.passkey_json.specs.Look.{entry_of}
+use Rattle.passkey_json.specs.Shape.{entry_of}
 use Rattle.passkey_json.specs.Shape.{Entry}
-use Rattle.passkey_json.specs.Table.{AreBack, TakeNothing, takes_of, BackFrom, IsBack, JsonMember, PlainTable, are_distinct, copied, distinct, either, either_name, entries, has_number, is_other, is_other_apart, looked, members_in, encoded, encoded_from, put_found, read_all, read_from, rows_of, table_json, take_any, takes_either, takes_from, uses}
+use Rattle.passkey_json.specs.Table.{AreBack, TakeNothing, takes_of, BackFrom, IsBack, JsonMember, PlainTable, are_distinct, copied, distinct, either, either_name, entries, has_number, is_other, is_other_apart, looked, members_in, encoded, encoded_from, put_found, read_all, read_from, rows_of, shape_from, table_json, take_any, takes_either, takes_from, uses}
 use Rattle.passkey_json.specs.Written.{EncodedMember, ReadsBack, are_apart, at_name, put_if, put_rows, written}
 use Rattle.passkey_json.specs.declared.bytes_form.BytesForm.{BytesForm}
 use Rattle.passkey_json.specs.declared.json_fault.JsonFault.{JsonFault}
@@ -46,6 +46,7 @@ pub record IsRow {P : Type 0} (ms : List (JsonMember P)) (n : ℕ) (e : Entry) (
   pub used : has_number m.entry.number (entries ms) ≡ true
   pub read : read_from ms m.entry.number ≡ put_found m
   pub takes : takes_from ms m.entry.number ≡ m.takes
+  pub shape : shape_from ms m.entry.number ≡ Some m.shape
   pub json : encoded_from ms m.entry.number ≡ encoded m
   pub back : (form : BytesForm) (x : P) → BackFrom ms m.entry.number form x → IsBack m form x
 
@@ -62,6 +63,7 @@ module _ {P : Type 0} where
           used = rw same refl;
           read = rw same refl;
           takes = rw same refl;
+          shape = rw same refl;
           json = rw same refl;
           back = λ form x. either_is _ (IsBack m form x) _ same;
         },
@@ -80,6 +82,7 @@ module _ {P : Type 0} where
           used = or_right _ _ later.1.used;
           read = rw other later.1.read;
           takes = rw other later.1.takes;
+          shape = rw other later.1.shape;
           json = rw other later.1.json;
           back = λ form x b. later.1.back form x (either_not _ _ (BackFrom ms later.0.entry.number form x) other b);
         },

@@ -10,7 +10,7 @@ use Rattle.std.proofs.Common.{sym, subst, ◌∙◌, arith, inl, inr, true≢fal
 use Rattle.passkey_bytes.specs.Map.{ByteMap}
 use Rattle.passkey_json.specs.Kind.{Kind, accepted, optional, each, list}
 use Rattle.passkey_json.specs.MapKind.{with_members, map_from_texts}
-use Rattle.passkey_json.specs.Shape.{Shape, leaf, Tested, Step, named, element, part_at, Part, part, first_element, first_member, within}
+use Rattle.passkey_json.specs.Shape.{Shape, leaf, list as list_of, record_of, tolerant, Rows, no_rows, row, Tested, Step, named, element, part_at, Part, part, first_element, first_member, within}
 use Rattle.passkey_json.specs.Shape as shape
 use Rattle.passkey_json.specs.declared.wanted.WantedJson.{WantedJson}
 use Rattle.serde_json.specs.Data.{Data, null, boolean, number, string, array, object, Items, no_items, item, Members, no_members, member}
@@ -20,12 +20,16 @@ use Rattle.serde_json.specs.Find.{get, get_member, get_item, at}
 abbrev pub accepts : {A : Type 0} → Kind A → Data → Bool
 accepts kind d = is_some (kind d)
 
--- an array of values that are all accepted; an array of any values; and an object of accepted values
+-- any value, of which the accepted ones are kept; an array of values that are all accepted; an array of any values, of
+-- which these are kept; and an object of accepted values
+abbrev pub tolerant_shape : {A : Type 0} → Kind A → Shape → Shape
+tolerant_shape kind s = tolerant (accepts kind) s
+
 abbrev pub list_shape : {A : Type 0} → Kind A → Shape → Shape
 list_shape kind s = shape.list (accepts kind) s
 
-abbrev pub accepted_shape : Shape → Shape
-accepted_shape s = shape.list (λ d. true) s
+abbrev pub accepted_shape : {A : Type 0} → Kind A → Shape → Shape
+accepted_shape kind s = shape.list (λ d. true) (tolerant_shape kind s)
 
 abbrev pub map_shape : {A : Type 0} → Kind A → Shape → Shape
 map_shape kind s = shape.map (accepts kind) s
@@ -76,6 +80,19 @@ pub record IsWithin (accepts : Data → Bool) (d : Data) (p : Part) : Type 0 whe
 -- What the shape blames within a JSON value that is refused is to blame.
 abbrev pub Strict : (Data → Bool) → Shape → Type 0
 Strict accepts s = (d : Data) (p : Part) → IsOnce d → accepts d ≡ false → within s d ≡ Some p → IsWithin accepts d p
+
+-- The same where any value is tolerated, of the values that are kept.
+abbrev mutual
+  pub Sound : Shape → Type 0
+  Sound (leaf w) = Unit {0}
+  Sound (list_of a s) = Sound s
+  Sound (shape.map a s) = Sound s
+  Sound (record_of fault rows) = AreSound rows
+  Sound (tolerant keeps s) = Strict keeps s × Sound s
+
+  pub AreSound : Rows → Type 0
+  AreSound no_rows = Unit {0}
+  AreSound (row e a s rs) = Sound s × AreSound rs
 
 -- ---- step by step
 
@@ -177,10 +194,10 @@ element_found t whole n no_items p finds e = absurd cc
 element_found t whole n (item x xs) p finds e =
     by_test (element_found t whole (suc n) xs p (λ k j is. finds (suc k) j (omega arith))) (t.accepts x) refl e where
       by_test : (first_element t (suc n) xs ≡ Some p → IsFound t whole p) → (b : Bool) → t.accepts x ≡ b
-          → (if b then first_element t (suc n) xs else Some (part (element n) 0 x t)) ≡ Some p → IsFound t whole p
+          → (if b then first_element t (suc n) xs else Some (part (element n) x t)) ≡ Some p → IsFound t whole p
       by_test later true a e = later e
       by_test later false a e =
-          let same : part (element n) 0 x t ≡ p = cc in
+          let same : part (element n) x t ≡ p = cc in
           subst (λ (q : Part). IsFound t whole q) same
           (record { leads = sym (finds 0 n (omega arith)); refused = a; is = refl })
 
@@ -191,10 +208,10 @@ member_found t whole no_members p finds e = absurd cc
 member_found t whole (member l x ms) p finds e =
     by_test (member_found t whole ms p (λ name y has. finds name y (inr has))) (t.accepts x) refl e where
       by_test : (first_member t ms ≡ Some p → IsFound t whole p) → (b : Bool) → t.accepts x ≡ b
-          → (if b then first_member t ms else Some (part (named l) 0 x t)) ≡ Some p → IsFound t whole p
+          → (if b then first_member t ms else Some (part (named l) x t)) ≡ Some p → IsFound t whole p
       by_test later true a e = later e
       by_test later false a e =
-          let same : part (named l) 0 x t ≡ p = cc in
+          let same : part (named l) x t ≡ p = cc in
           subst (λ (q : Part). IsFound t whole q) same
           (record { leads = finds l x (inl (refl, refl)); refused = a; is = refl })
 
@@ -241,7 +258,7 @@ module _ {A : Type 0} (kind : Kind A) where
   list_strict s strict (object ms) p once bad e = absurd cc
 
   -- no element is refused
-  pub accepted_strict : (s : Shape) → Strict (accepts (accepted kind)) (accepted_shape s)
+  pub accepted_strict : (s : Shape) → Strict (accepts (accepted kind)) (accepted_shape kind s)
   accepted_strict s (array ds) p once bad e = absurd (true≢false bad)
   accepted_strict s null p once bad e = absurd cc
   accepted_strict s (boolean b) p once bad e = absurd cc

@@ -5,7 +5,7 @@ use Rattle.passkey_bytes.specs.Map.{ByteMap}
 use Rattle.passkey_iana.specs.declared.algorithm.Algorithm.{Algorithm}
 use Rattle.passkey_json.specs.Kind.{Kind, algorithm, bytes, is_array, is_object, is_text, is_text_or_array, list, one_named, text, truth, truth_text, whole, word}
 use Rattle.passkey_json.specs.MapKind.{map_from_texts, map_json}
-use Rattle.passkey_json.specs.Along.{Strict, accepts, leaf_strict, list_shape, list_strict, map_shape, map_strict}
+use Rattle.passkey_json.specs.Along.{Sound, Strict, accepts, leaf_strict, list_shape, list_strict, map_shape, map_strict}
 use Rattle.passkey_json.specs.Shape.{Shape, leaf}
 use Rattle.passkey_json.specs.declared.wanted.WantedJson.{WantedJson}
 use Rattle.passkey_json.specs.declared.wanted.WantedJson.TheVariants as want
@@ -28,6 +28,7 @@ pub record Coded (M : Type 0) : Type 0 where
   pub json : BytesForm → M → Data
   pub shape : Shape
   pub strict : Strict (accepts kind) shape
+  pub sound : Sound shape
 
 -- a value that takes no memory to decode, and is encoded without bytes
 abbrev small_value : {M : Type 0} → WantedJson → Kind M → (M → Data) → Coded M
@@ -37,6 +38,7 @@ small_value w kind json = record {
   json = λ form x. json x;
   shape = leaf w;
   strict = leaf_strict (accepts kind) w;
+  sound = tt;
 }
 
 abbrev pub truth_value : Coded Bool
@@ -71,6 +73,7 @@ text_value = record {
   json = λ form s. string s;
   shape = leaf want.Text;
   strict = leaf_strict (accepts text) want.Text;
+  sound = tt;
 }
 
 abbrev pub bytes_value : Coded (List ℕ)
@@ -80,6 +83,7 @@ bytes_value = record {
   json = bytes_json;
   shape = leaf want.Bytes;
   strict = leaf_strict (accepts bytes) want.Bytes;
+  sound = tt;
 }
 
 abbrev pub list_value : {M : Type 0} → Coded M → Coded (List M)
@@ -89,6 +93,7 @@ list_value c = record {
   json = λ form. list_json (c.json form);
   shape = list_shape c.kind c.shape;
   strict = list_strict c.kind c.shape c.strict;
+  sound = c.sound;
 }
 
 abbrev pub map_value : {M : Type 0} → Coded M → Coded (ByteMap M)
@@ -98,4 +103,5 @@ map_value c = record {
   json = λ form. map_json (c.json form);
   shape = map_shape c.kind c.shape;
   strict = map_strict c.kind c.shape c.strict;
+  sound = c.sound;
 }

@@ -1,17 +1,32 @@
 -- Contracts' views of objects and members, and the result of decoding them.
-use Rattle.std.specs.Prelude.{◌≡◌, Result, Ok, Err, option_map}
+use Rattle.std.specs.Global.{Vec}
+use Rattle.std.specs.Prelude.{◌≡◌, IfOk, Option, Some, None, Result, Ok, Err, option_map}
 use Rattle.passkey_json.specs.Fault.{Fault, Gives}
-use Rattle.passkey_json.specs.Look.{IsSeen}
+use Rattle.passkey_json.specs.Blame.{Blames}
+use Rattle.passkey_json.specs.Dropped.{Drops}
 use Rattle.passkey_json.specs.Members.{Object, Member}
 use Rattle.passkey_json.specs.Shape.{Shape}
+use Rattle.passkey_json.specs.declared.blame.JsonBlame.{JsonBlame}
+use Rattle.passkey_json.specs.declared.dropped.DroppedValue.{DroppedValue}
 use Rattle.passkey_json.specs.declared.json_fault.JsonFault.{JsonFault}
 use Rattle.passkey_json.specs.declared.json_fault.JsonFault.TheVariants as json_fault
 use Rattle.passkey_json.specs.declared.member.Member.{Member as MemberHeld}
+use Rattle.passkey_json.specs.declared.member.Question.{Question}
+use Rattle.passkey_json.specs.declared.member.Question.TheVariants as question
 use Rattle.passkey_json.specs.declared.object.Object.{Object as ObjectHeld}
 use Rattle.passkey_json.specs.declared.json_refusal.JsonRefusal.{JsonRefusal}
 use Rattle.passkey_json.specs.declared.json_refusal.JsonRefusal.TheVariants as refusal
+use Rattle.passkey_memory.specs.declared.OutOfMemory.{OutOfMemory as NoMemory}
+use Rattle.serde_json.specs.Data.{Data}
 use Rattle.serde_json.specs.Find.{get}
 use Rattle.serde_json.specs.View.{view}
+
+-- What is asked of a value, if there is one, is answered.
+abbrev pub Answered : Shape → Option Question → Option Data → Result JsonBlame NoMemory
+    → Result (Vec DroppedValue) NoMemory → Type 0
+Answered s (Some question.Blame) (Some d) blame dropped = IfOk blame (Blames s d)
+Answered s (Some question.Dropped) (Some d) blame dropped = IfOk dropped (λ v. Drops s d v.items)
+Answered s _ _ blame dropped = Unit {0}
 
 -- the object's value under each name, if there is one
 abbrev pub names_of : ObjectHeld → Object
@@ -20,9 +35,9 @@ names_of o name = get name (view o.value.now)
 abbrev pub found : MemberHeld → Member
 found m = record { name = m.name.now; value = option_map (λ v. view v.now) m.value }
 
--- The type that the member is decoded as was looked at, if there is a way into it, and a value.
-abbrev pub HasLooked : Shape → MemberHeld → MemberHeld → Type 0
-HasLooked s old new = IsSeen s (option_map (λ w. w.now) old.way) (found old).value new.look
+-- What is asked of the member was answered, by the type that it is decoded as.
+abbrev pub HasAnswered : Shape → MemberHeld → MemberHeld → Type 0
+HasAnswered s old new = Answered s old.question (found old).value new.blame new.dropped
 
 -- The same as `Gives`, for the view of a value.
 abbrev pub GivesAs : {A M : Type 0} → Type 0 → (A → M) → Result M Fault → Result A JsonFault → Type 0

@@ -4,7 +4,9 @@ pub mod Names
 pub mod Kind
 pub mod Members
 pub mod Shape
-pub mod Look
+pub mod Blame
+pub mod BlameTexts
+pub mod Dropped
 pub mod Held
 pub mod Written
 pub mod JsonText

@@ -1,7 +1,7 @@
 -- Records as tables of members, and how they are decoded.
 use Rattle.std.specs.Prelude.{◌≡◌, ℕ, ◌==◌, ◌||◌, ◌&&◌, not, Bool, true, false, List, [], ◌∷◌, Option, Some, None, Result, Ok}
 use Rattle.std.specs.Str.{bytes_eq}
-use Rattle.passkey_json.specs.Along.{Strict}
+use Rattle.passkey_json.specs.Along.{AreSound, Sound, Strict}
 use Rattle.passkey_json.specs.Fault.{Fault, fault_in}
 use Rattle.passkey_json.specs.MemberLaws.{Judges}
 use Rattle.passkey_json.specs.Members.{◌>>=◌, Object, Member, member, under, aliased, in_object, takes_at}
@@ -30,6 +30,7 @@ pub record JsonMember (P : Type 0) : Type 1 where
   pub back : (form : BytesForm) (x : Value) → Back form x → read (under entry.name (json form x)) ≡ Ok x
   pub judges : Judges read accepts
   pub strict : Strict accepts shape
+  pub sound : Sound shape
 
 abbrev pub either_name : List ℕ → Option (List ℕ) → Object → Result Member Fault
 either_name name None object = Ok (member name object)
@@ -142,6 +143,10 @@ table_json t form x = written (rows_of t.members form x)
 abbrev pub rows_in : {P : Type 0} → List (JsonMember P) → Rows
 rows_in [] = no_rows
 rows_in (m ∷ ms) = row m.entry m.accepts m.shape (rows_in ms)
+
+pub rows_sound : {P : Type 0} (ms : List (JsonMember P)) → AreSound (rows_in ms)
+rows_sound [] = tt
+rows_sound (m ∷ ms) = (m.sound, rows_sound ms)
 
 abbrev pub table_shape : {P : Type 0} → PlainTable P → Shape
 table_shape t = record_of (λ d. fault_in (in_object (members_in t) d)) (rows_in t.members)

@@ -1,5 +1,5 @@
 -- What a record blames in a JSON value that it refuses is to blame.
-use Rattle.std.specs.Prelude.{◌≡◌, ◌⊎◌, ℕ, ◌||◌, ◌==◌, not, Bool, true, false, if◌then◌else◌, List, [], ◌∷◌, Option, Some, None, is_some, Result, Ok, Err, is_ok, refl}
+use Rattle.std.specs.Prelude.{◌≡◌, ◌⊎◌, ℕ, ◌||◌, ◌==◌, not, Bool, true, false, if◌then◌else◌, List, [], ◌∷◌, Option, Some, None, is_some, option_map, Result, Ok, Err, is_ok, refl}
 use Rattle.std.specs.Option.{option_and_then}
 use Rattle.std.specs.Result.{result_ok}
 use Rattle.std.specs.Str.{bytes_eq}
@@ -10,7 +10,7 @@ use Rattle.passkey_json.specs.Along.{Strict, IsWithin, accepts, holds}
 use Rattle.passkey_json.specs.Fault.{Fault, no_object, missing, refused, float, repeated, fault_in, fault_name, is_refusal}
 use Rattle.passkey_json.specs.Members.{◌>>=◌, Object, Member, under, one_of, aliased, in_object, record_kind}
 use Rattle.passkey_json.specs.Record.{JsonMember, PlainTable, either_name, looked, read_all, entries, are_distinct, has_number, uses, is_other, is_other_apart, distinct, members_in, rows_in, table_shape}
-use Rattle.passkey_json.specs.Shape.{Entry, Tested, Part, part, named, entries_in, row_in, entry_named, member_at, other_at, own_or_other, entry_at, row_at, faulty_row}
+use Rattle.passkey_json.specs.Shape.{Entry, Tested, Part, part, named, entries_in, row_in, entry_named, decoded_as, entry_at, faulty_row, other_present, own_present, row_at}
 use Rattle.serde_json.specs.Data.{Data, array, object, null, boolean, number, string}
 use Rattle.serde_json.specs.Find.{get}
 
@@ -272,11 +272,11 @@ module _ {P : Type 0} (t : PlainTable P) where
     -- the value under this name
     value_within : (k : List ℕ) (x : Data) → get k d ≡ Some x → b.found ≡ under n.m.entry.name (Some x)
         → ((q y : Data) → get k q ≡ Some y → n.m.accepts y ≡ false → Fails t.members q)
-        → member_at (rows_in t.members) n.m.entry.number k d ≡ Some p
+        → decoded_as (rows_in t.members) n.m.entry.number (Some (k, x)) ≡ Some p
         → IsWithin (accepts (record_kind (members_in t))) d p
     value_within k x here is fails at =
-        let whole : Part = part (named k) n.m.entry.number x (tested_by n.m) in
-        let there : Some whole ≡ Some p = rw (here, n.row) at at in
+        let whole : Part = part (named k) x (tested_by n.m) in
+        let there : Some whole ≡ Some p = rw n.row at at in
         let same : whole ≡ p = cc in
         subst (λ (q : Part). IsWithin (accepts (record_kind (members_in t))) d q) same (record {
           leads = here;
@@ -286,28 +286,25 @@ module _ {P : Type 0} (t : PlainTable P) where
         })
 
     by_other : get n.m.entry.name d ≡ None → (o : Option (List ℕ)) → n.m.entry.other ≡ o
-        → other_at (rows_in t.members) n.m.entry.number o d ≡ Some p → IsWithin (accepts (record_kind (members_in t))) d p
+        → decoded_as (rows_in t.members) n.m.entry.number (other_present o d) ≡ Some p
+        → IsWithin (accepts (record_kind (members_in t))) d p
     by_other none None is at = absurd cc
-    by_other none (Some k) is at = by_value (get k d) refl where
-      by_value : (v : Option Data) → get k d ≡ v → IsWithin (accepts (record_kind (members_in t))) d p
-      by_value None here = absurd (let f = rw here at at in cc)
-      by_value (Some x) here =
+    by_other none (Some k) is at = by_value (get k d) refl at where
+      by_value : (v : Option Data) → get k d ≡ v
+          → decoded_as (rows_in t.members) n.m.entry.number (option_map (λ x. (k, x)) v) ≡ Some p
+          → IsWithin (accepts (record_kind (members_in t))) d p
+      by_value None here at = absurd cc
+      by_value (Some x) here at =
           value_within k x here (found_other n.m.entry.name k (names_in d) x b.found none here (rw is at b.looks))
           (n.other k is) at
 
-    abbrev own : Option Part
-    own = member_at (rows_in t.members) n.m.entry.number n.m.entry.name d
-
-    abbrev other : Option Part
-    other = other_at (rows_in t.members) n.m.entry.number n.m.entry.other d
-
     entry_within : (v : Option Data) → get n.m.entry.name d ≡ v
-        → entry_at (rows_in t.members) d n.m.entry ≡ Some p → IsWithin (accepts (record_kind (members_in t))) d p
+        → decoded_as (rows_in t.members) n.m.entry.number (own_present n.m.entry.name v (other_present n.m.entry.other d))
+        ≡ Some p → IsWithin (accepts (record_kind (members_in t))) d p
     entry_within (Some x) here at =
         value_within n.m.entry.name x here (found_own n.m.entry.name n.m.entry.other (names_in d) x b.found here b.looks)
-        n.own (subst (λ (v : Option Data). own_or_other v own other ≡ Some p) here at)
-    entry_within None here at =
-        by_other here n.m.entry.other refl (subst (λ (v : Option Data). own_or_other v own other ≡ Some p) here at)
+        n.own at
+    entry_within None here at = by_other here n.m.entry.other refl at
 
   row_within : (d : Data) (f : Fault) (name : List ℕ) (p : Part) → is_refusal f ≡ true → fault_name f ≡ Some name
       → in_object (members_in t) d ≡ Err f → row_at (rows_in t.members) name d ≡ Some p

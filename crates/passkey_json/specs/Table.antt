@@ -1,13 +1,13 @@
 -- Tables of records: one table says how a record is decoded and how it is encoded.
 use Rattle.std.specs.Prelude.{ℕ, ◌==◌, Bool, true, false, List, [], ◌∷◌, Option, Some, None, option_map, Result, Ok, if◌then◌else◌, ◌≡◌}
-use Rattle.passkey_json.specs.Along.{Strict, accepts, accepted_shape, accepted_strict, any_strict, option_strict}
+use Rattle.passkey_json.specs.Along.{Sound, Strict, accepts, accepted_shape, accepted_strict, any_strict, option_strict, tolerant_shape}
 use Rattle.passkey_json.specs.Coded.{Coded, list_value}
 use Rattle.passkey_json.specs.Fault.{Fault}
-use Rattle.passkey_json.specs.Kind.{optional, accepted}
+use Rattle.passkey_json.specs.Kind.{Kind, optional, accepted}
 use Rattle.passkey_json.specs.MemberLaws as law
 use Rattle.passkey_json.specs.MemberLaws.{Judges}
 use Rattle.passkey_json.specs.Members.{Member, under, record_kind, takes_in, required, required_tolerated, or_default, if_present, tolerated, accepted_list}
-pub use Rattle.passkey_json.specs.Record.{JsonMember, either_name, looked, takes_either, put_found, encoded, IsBack, read_all, take_any, TakeNothing, rows_of, AreBack, copied, entries, has_number, is_other, uses, is_other_apart, are_distinct, PlainTable, distinct, members_in, takes_of, table_json, rows_in, table_shape}
+pub use Rattle.passkey_json.specs.Record.{JsonMember, either_name, looked, takes_either, put_found, encoded, IsBack, read_all, take_any, TakeNothing, rows_of, AreBack, copied, entries, has_number, is_other, uses, is_other_apart, are_distinct, PlainTable, distinct, members_in, takes_of, table_json, rows_in, rows_sound, table_shape}
 use Rattle.passkey_json.specs.RecordAlong.{record_strict}
 use Rattle.passkey_json.specs.Shape.{Shape}
 use Rattle.passkey_json.specs.Written.{ReadsBack, ReadsBackIf}
@@ -22,6 +22,7 @@ nested t = record {
   json = table_json t;
   shape = table_shape t;
   strict = record_strict t;
+  sound = rows_sound t.members;
 }
 
 -- ---- the member with a number
@@ -79,6 +80,7 @@ pub record Accepted (s : Shape) {A : Type 0} (read : Member → Result A Fault) 
   pub accepts : Data → Bool
   pub judges : Judges read accepts
   pub strict : Strict accepts s
+  pub sound : Sound s
 
 -- always encoded
 abbrev always : {M P : Type 0} (n : ℕ) (name : List ℕ) (c : Coded M) (s : Shape)
@@ -99,6 +101,7 @@ always {M} n name c s read a back get set = record {
   back = λ form x b. back x (c.json form x) b;
   judges = a.judges;
   strict = a.strict;
+  sound = a.sound;
 }
 
 -- encoded if there is a value
@@ -120,6 +123,7 @@ if_some {M} n name c s read a back get set = record {
   back = λ form o b. back (c.json form) o b;
   judges = a.judges;
   strict = a.strict;
+  sound = a.sound;
 }
 
 -- the same member, also decoded under another name
@@ -129,17 +133,27 @@ or_as other m = record m { entry = record { number = m.entry.number; name = m.en
 module _ {M : Type 0} (c : Coded M) where
   -- values that the kind accepts
   abbrev by_kind : {A : Type 0} (read : Member → Result A Fault) → Judges read (accepts c.kind) → Accepted c.shape read
-  by_kind read judges = record { accepts = accepts c.kind; judges = judges; strict = c.strict }
+  by_kind read judges = record { accepts = accepts c.kind; judges = judges; strict = c.strict; sound = c.sound }
 
   -- those, and null
   abbrev by_option : (read : Member → Result (Option M) Fault) → Judges read (accepts (optional c.kind))
       → Accepted c.shape read
-  by_option read judges =
-      record { accepts = accepts (optional c.kind); judges = judges; strict = option_strict c.kind c.shape c.strict }
+  by_option read judges = record {
+    accepts = accepts (optional c.kind);
+    judges = judges;
+    strict = option_strict c.kind c.shape c.strict;
+    sound = c.sound;
+  }
 
-  -- all values
-  abbrev by_tolerance : {A : Type 0} (read : Member → Result A Fault) → Judges read (λ d. true) → Accepted c.shape read
-  by_tolerance read judges = record { accepts = λ d. true; judges = judges; strict = any_strict c.shape }
+-- all values, of which those that the kind accepts are kept
+abbrev by_tolerance : {A B : Type 0} (kind : Kind B) (s : Shape) → Strict (accepts kind) s → Sound s
+    → (read : Member → Result A Fault) → Judges read (λ d. true) → Accepted (tolerant_shape kind s) read
+by_tolerance kind s strict sound read judges = record {
+  accepts = λ d. true;
+  judges = judges;
+  strict = any_strict (tolerant_shape kind s);
+  sound = (strict, sound);
+}
 
 module _ {M P : Type 0} (n : ℕ) (name : List ℕ) (c : Coded M) where
   -- a required member
@@ -152,7 +166,8 @@ module _ {M P : Type 0} (n : ℕ) (name : List ℕ) (c : Coded M) where
   abbrev pub required_tolerated_as : M → (P → M) → (M → P → P) → JsonMember P
   required_tolerated_as default =
       let read = required_tolerated default c.kind in
-      always n name c c.shape read (by_tolerance c read (law.required_tolerated_judges c.kind default))
+      always n name c (tolerant_shape c.kind c.shape) read
+      (by_tolerance c.kind c.shape c.strict c.sound read (law.required_tolerated_judges c.kind default))
       (λ x d b. law.required_tolerated_back b name default)
 
   -- a member with the default if it is absent
@@ -166,7 +181,8 @@ module _ {M P : Type 0} (n : ℕ) (name : List ℕ) (c : Coded M) where
   abbrev pub tolerated_as : M → (P → M) → (M → P → P) → JsonMember P
   tolerated_as default =
       let read = tolerated default c.kind in
-      always n name c c.shape read (by_tolerance c read (law.tolerated_judges c.kind default))
+      always n name c (tolerant_shape c.kind c.shape) read
+      (by_tolerance c.kind c.shape c.strict c.sound read (law.tolerated_judges c.kind default))
       (λ x d b. law.tolerated_back b name default)
 
   -- `None` if it is absent or null
@@ -186,27 +202,28 @@ module _ {M P : Type 0} (n : ℕ) (name : List ℕ) (c : Coded M) where
   abbrev pub tolerated_optional_as : (P → Option M) → (Option M → P → P) → JsonMember P
   tolerated_optional_as =
       let read = tolerated None (optional c.kind) in
-      if_some n name c c.shape read (by_tolerance c read (law.tolerated_judges (optional c.kind) None))
+      let strict = option_strict c.kind c.shape c.strict in
+      if_some n name c (tolerant_shape (optional c.kind) c.shape) read
+      (by_tolerance (optional c.kind) c.shape strict c.sound read (law.tolerated_judges (optional c.kind) None))
       (λ json. law.tolerated_optional_back c.kind json name)
 
   -- a required array, of which the accepted elements are kept
   abbrev pub required_list_as : (P → List M) → (List M → P → P) → JsonMember P
   required_list_as =
-      always n name (list_value c) (accepted_shape c.shape) (required (accepted c.kind))
+      always n name (list_value c) (accepted_shape c.kind c.shape) (required (accepted c.kind))
       (record {
         accepts = accepts (accepted c.kind);
         judges = law.required_judges (accepted c.kind);
         strict = accepted_strict c.kind c.shape;
+        sound = (c.strict, c.sound);
       })
       (λ x d b. law.required_list_back c.kind x d b name)
 
   -- an array of which the accepted elements are kept; `None` if it is absent or no array
   abbrev pub accepted_as : (P → Option (List M)) → (Option (List M) → P → P) → JsonMember P
   accepted_as =
-      if_some n name (list_value c) (accepted_shape c.shape) (accepted_list c.kind)
-      (record {
-        accepts = λ d. true;
-        judges = law.accepted_list_judges c.kind;
-        strict = any_strict (accepted_shape c.shape);
-      })
+      let s = accepted_shape c.kind c.shape in
+      if_some n name (list_value c) (tolerant_shape (accepted c.kind) s) (accepted_list c.kind)
+      (by_tolerance (accepted c.kind) s (accepted_strict c.kind c.shape) (c.strict, c.sound) (accepted_list c.kind)
+      (law.accepted_list_judges c.kind))
       (λ json. law.accepted_list_back c.kind json name)

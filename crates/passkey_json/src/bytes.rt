@@ -7,10 +7,11 @@ ghost use Rattle.passkey_json.specs.Written.{ReadsBack, bytes_json};
 ghost use Rattle.passkey_json.specs.declared.bytes_form.BytesForm.TheVariants.{Base64Url};
 ghost use Rattle.serde_json.specs.View.{view};
 
+use crate::blame::JsonBlame;
 use crate::bytes_form::BytesForm;
+use crate::dropped::DroppedValue;
 use crate::from_json::FromJson;
 use crate::json_refusal::JsonRefusal;
-use crate::look::{Look, look_at_leaf};
 use crate::to_json::ToJson;
 use crate::wanted::WantedJson;
 use crate::written::array;
@@ -42,8 +43,12 @@ impl FromJson for Bytes {
         }
     }
 
-    fn look(alloc: Global, value: &Value) -> Result<Look, OutOfMemory> {
-        look_at_leaf(Bytes::from_value(alloc, value), WantedJson::Bytes)
+    fn blame(alloc: Global, _value: &Value) -> Result<JsonBlame, OutOfMemory> {
+        Ok(JsonBlame::wanted(alloc, WantedJson::Bytes))
+    }
+
+    fn dropped(alloc: Global, _value: &Value) -> Result<Vec<DroppedValue>, OutOfMemory> {
+        Ok(Vec::new(alloc))
     }
 }
 

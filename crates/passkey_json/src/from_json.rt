@@ -1,15 +1,17 @@
 //! Values that are decoded from JSON values.
-ghost use Rattle.std.specs.Option.{option_and_then};
 ghost use Rattle.std.specs.Prelude.{◌≡◌, Bool, false, IfOk, Option};
+ghost use Rattle.passkey_json.specs.Along.{accepts};
 ghost use Rattle.passkey_json.specs.Kind.{Answers, algorithm, truth, text, whole, numeral, byte, word, optional, is_text};
-ghost use Rattle.passkey_json.specs.Look.{Looks, LooksAs, tested};
-ghost use Rattle.passkey_json.specs.Shape.{Shape, leaf, part_of, reached};
+ghost use Rattle.passkey_json.specs.Blame.{Blames};
+ghost use Rattle.passkey_json.specs.Dropped.{Drops};
+ghost use Rattle.passkey_json.specs.Shape.{Shape, leaf};
 ghost use Rattle.passkey_json.specs.declared.wanted.WantedJson.TheVariants as want;
 ghost use Rattle.serde_json.specs.Data.{Data};
 ghost use Rattle.serde_json.specs.View.{view};
 
+use crate::blame::JsonBlame;
+use crate::dropped::DroppedValue;
 use crate::json_refusal::JsonRefusal;
-use crate::look::{Look, look_at_leaf, looked};
 use crate::wanted::WantedJson;
 use passkey_bytes::Text;
 use passkey_iana::{Algorithm, EnumI64};
@@ -35,24 +37,28 @@ pub trait FromJson: Drop {
     /// What it is decoded from, part by part.
     ghost shape: { Shape };
 
-    /// Returns what the type is decoded from, and whether it accepts the JSON value. Returns
-    /// `OutOfMemory` if an allocation fails.
-    fn look(alloc: Global, value: &Value) -> Result<Look, OutOfMemory>
-        ensures { IfOk result (LooksAs (tested kind shape) (view value.now)) };
+    /// Returns what is to blame if the type refuses the JSON value: the innermost value that is
+    /// refused, and why. If the type accepts the value, what is returned is to blame for nothing.
+    /// Returns `OutOfMemory` if an allocation fails.
+    fn blame(alloc: Global, value: &Value) -> Result<JsonBlame, OutOfMemory>
+        ensures { IfOk result (Blames shape (view value.now)) };
 
-    /// The same for a part of the type: the elements of a list and the members of a map, by any
-    /// number, or the row of a record with this number; and then for the part of that to which the
-    /// rest of the way leads. Nothing is promised for a way that leads nowhere, such as any for a
-    /// type without parts.
-    fn look_into(
-        _alloc: Global,
-        _number: u8,
-        _rest: &[u8],
-        _value: &Value,
-    ) -> Result<Look, OutOfMemory>
-        ensures { Looks (option_and_then (reached _rest.now) (part_of _number shape)) (view _value.now) result }
-    {
-        Err(OutOfMemory)
+    /// Lists the values that are left out of the JSON value where the type tolerates any value: an
+    /// element of a `TolerantList`, or the value of a member, that would be refused otherwise. Their
+    /// order is that of the elements and of the record's members. Returns `OutOfMemory` if an
+    /// allocation fails.
+    fn dropped(alloc: Global, value: &Value) -> Result<Vec<DroppedValue>, OutOfMemory>
+        ensures { IfOk result (λ v. Drops shape (view value.now) v.items) };
+}
+
+/// Returns whether the type accepts the JSON value. Returns `OutOfMemory` if an allocation fails.
+pub(crate) fn is_accepted<T: FromJson>(alloc: Global, value: &Value) -> Result<bool, OutOfMemory>
+    ensures { IfOk result (λ b. b ≡ accepts T.kind (view value.now)) }
+{
+    match T::from_value(alloc, value) {
+        Ok(_) => Ok(true),
+        Err(JsonRefusal::Refused) => Ok(false),
+        Err(JsonRefusal::OutOfMemory) => Err(OutOfMemory),
     }
 }
 
@@ -76,8 +82,12 @@ impl FromJson for bool {
         value.as_bool().ok_or(JsonRefusal::Refused)
     }
 
-    fn look(alloc: Global, value: &Value) -> Result<Look, OutOfMemory> {
-        look_at_leaf(bool::from_value(alloc, value), WantedJson::Boolean)
+    fn blame(alloc: Global, _value: &Value) -> Result<JsonBlame, OutOfMemory> {
+        Ok(JsonBlame::wanted(alloc, WantedJson::Boolean))
+    }
+
+    fn dropped(alloc: Global, _value: &Value) -> Result<Vec<DroppedValue>, OutOfMemory> {
+        Ok(Vec::new(alloc))
     }
 }
 
@@ -95,8 +105,12 @@ impl FromJson for Text {
         }
     }
 
-    fn look(alloc: Global, value: &Value) -> Result<Look, OutOfMemory> {
-        look_at_leaf(Text::from_value(alloc, value), WantedJson::Text)
+    fn blame(alloc: Global, _value: &Value) -> Result<JsonBlame, OutOfMemory> {
+        Ok(JsonBlame::wanted(alloc, WantedJson::Text))
+    }
+
+    fn dropped(alloc: Global, _value: &Value) -> Result<Vec<DroppedValue>, OutOfMemory> {
+        Ok(Vec::new(alloc))
     }
 }
 
@@ -112,8 +126,12 @@ impl FromJson for u8 {
         }
     }
 
-    fn look(alloc: Global, value: &Value) -> Result<Look, OutOfMemory> {
-        look_at_leaf(u8::from_value(alloc, value), WantedJson::Integer)
+    fn blame(alloc: Global, _value: &Value) -> Result<JsonBlame, OutOfMemory> {
+        Ok(JsonBlame::wanted(alloc, WantedJson::Integer))
+    }
+
+    fn dropped(alloc: Global, _value: &Value) -> Result<Vec<DroppedValue>, OutOfMemory> {
+        Ok(Vec::new(alloc))
     }
 }
 
@@ -130,8 +148,12 @@ impl FromJson for u32 {
         }
     }
 
-    fn look(alloc: Global, value: &Value) -> Result<Look, OutOfMemory> {
-        look_at_leaf(u32::from_value(alloc, value), WantedJson::Word)
+    fn blame(alloc: Global, _value: &Value) -> Result<JsonBlame, OutOfMemory> {
+        Ok(JsonBlame::wanted(alloc, WantedJson::Word))
+    }
+
+    fn dropped(alloc: Global, _value: &Value) -> Result<Vec<DroppedValue>, OutOfMemory> {
+        Ok(Vec::new(alloc))
     }
 }
 
@@ -144,8 +166,12 @@ impl FromJson for i64 {
         value.as_i64().ok_or(JsonRefusal::Refused)
     }
 
-    fn look(alloc: Global, value: &Value) -> Result<Look, OutOfMemory> {
-        look_at_leaf(i64::from_value(alloc, value), WantedJson::Integer)
+    fn blame(alloc: Global, _value: &Value) -> Result<JsonBlame, OutOfMemory> {
+        Ok(JsonBlame::wanted(alloc, WantedJson::Integer))
+    }
+
+    fn dropped(alloc: Global, _value: &Value) -> Result<Vec<DroppedValue>, OutOfMemory> {
+        Ok(Vec::new(alloc))
     }
 }
 
@@ -162,8 +188,12 @@ impl FromJson for Algorithm {
         }
     }
 
-    fn look(alloc: Global, value: &Value) -> Result<Look, OutOfMemory> {
-        look_at_leaf(Algorithm::from_value(alloc, value), WantedJson::Algorithm)
+    fn blame(alloc: Global, _value: &Value) -> Result<JsonBlame, OutOfMemory> {
+        Ok(JsonBlame::wanted(alloc, WantedJson::Algorithm))
+    }
+
+    fn dropped(alloc: Global, _value: &Value) -> Result<Vec<DroppedValue>, OutOfMemory> {
+        Ok(Vec::new(alloc))
     }
 }
 
@@ -181,17 +211,11 @@ impl<T: FromJson> FromJson for Option<T> {
         }
     }
 
-    fn look(alloc: Global, value: &Value) -> Result<Look, OutOfMemory> {
-        let look = T::look(alloc, value)?;
-        looked(<Option<T>>::from_value(alloc, value), look.form)
+    fn blame(alloc: Global, value: &Value) -> Result<JsonBlame, OutOfMemory> {
+        T::blame(alloc, value)
     }
 
-    fn look_into(
-        alloc: Global,
-        number: u8,
-        rest: &[u8],
-        value: &Value,
-    ) -> Result<Look, OutOfMemory> {
-        T::look_into(alloc, number, rest, value)
+    fn dropped(alloc: Global, value: &Value) -> Result<Vec<DroppedValue>, OutOfMemory> {
+        T::dropped(alloc, value)
     }
 }

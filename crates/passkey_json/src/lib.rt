@@ -1,8 +1,10 @@
 //! WebAuthn's types, decoded from JSON values and encoded.
 #![tactic(auto)]
 
+mod blame;
 mod bytes;
 mod bytes_form;
+mod dropped;
 mod extensions;
 mod floats;
 mod from_json;
@@ -12,7 +14,6 @@ mod json_record;
 mod json_refusal;
 pub mod laws;
 mod list;
-mod look;
 mod map;
 mod member;
 mod names;
@@ -29,7 +30,9 @@ mod wanted;
 mod webauthn;
 mod written;
 
+pub use blame::{JsonBlame, JsonReason, JsonStep};
 pub use bytes_form::BytesForm;
+pub use dropped::DroppedValue;
 pub use extensions::{
     AuthenticationExtensionsClientInputs, AuthenticationExtensionsClientOutputs,
     AuthenticationExtensionsPrfInputs, CredentialPropertiesOutput,
@@ -41,7 +44,6 @@ pub use json_fault::JsonFault;
 pub use json_record::{JsonRecord, read_nested};
 pub use json_refusal::JsonRefusal;
 pub use list::TolerantList;
-pub use look::{Form, Look, look_along, look_at_leaf, looked};
 pub use member::{Member, place};
 pub use names::{read_name, written_name};
 pub use object::Object;

@@ -1,15 +1,20 @@
 //! Maps from texts, decoded from JSON objects and encoded.
+ghost use Rattle.std.specs.Prelude.{◌≡◌, IfOk, map, option_map};
 ghost use Rattle.passkey_json.specs.Along.{map_shape};
+ghost use Rattle.passkey_json.specs.Dropped.{AreDropped, dropped, dropped_map, told};
 ghost use Rattle.passkey_json.specs.Kind.{Answers, is_object};
 ghost use Rattle.passkey_json.specs.MapKind.{map_from_texts, map_json};
+ghost use Rattle.passkey_json.specs.Shape.{first_member, named, part, tested};
 ghost use Rattle.serde_json.specs.Data.{object};
-ghost use Rattle.serde_json.specs.View.{members_view};
+ghost use Rattle.serde_json.specs.View.{members_view, view};
 
+use crate::blame::{JsonBlame, JsonStep};
 use crate::bytes_form::BytesForm;
-use crate::from_json::FromJson;
+use crate::dropped::{DroppedValue, append_as};
+use crate::from_json::{FromJson, is_accepted};
 use crate::json_refusal::JsonRefusal;
-use crate::look::{Form, Look, look_along, looked};
 use crate::to_json::ToJson;
+use crate::wanted::WantedJson;
 use crate::written::ObjectWriter;
 use passkey_bytes::{Map, Text};
 use passkey_memory::OutOfMemory;
@@ -30,6 +35,22 @@ fn read_members<T: FromJson>(
     Ok(read)
 }
 
+/// Returns the first of the members that is refused, and its name.
+fn refused_member<'a, T: FromJson>(
+    alloc: Global,
+    members: &'a Members<String, Value>,
+) -> Result<Option<(&'a str, &'a Value)>, OutOfMemory>
+    ensures { IfOk result (λ o. option_map (λ m. part (named m.0.now) (view m.1.now) (tested T.kind T.shape)) o
+        ≡ first_member (tested T.kind T.shape) (members_view members.now.entries)) }
+{
+    for (name, member) in members.iter() {
+        if !is_accepted::<T>(alloc, member)? {
+            return Ok(Some((name.as_str(), member)));
+        }
+    }
+    Ok(None)
+}
+
 impl<T: FromJson> FromJson for Map<Text, T> {
     ghost kind = { map_from_texts T.kind };
 
@@ -44,17 +65,26 @@ impl<T: FromJson> FromJson for Map<Text, T> {
         }
     }
 
-    fn look(alloc: Global, value: &Value) -> Result<Look, OutOfMemory> {
-        looked(<Map<Text, T>>::from_value(alloc, value), Form::Map)
+    fn blame(alloc: Global, value: &Value) -> Result<JsonBlame, OutOfMemory> {
+        if let Value::Object(members) = value {
+            if let Some((name, member)) = refused_member::<T>(alloc, members)? {
+                let step = JsonStep::Named(Text::from_str(alloc, name)?);
+                return T::blame(alloc, member)?.under(step);
+            }
+        }
+        Ok(JsonBlame::wanted(alloc, WantedJson::Object))
     }
 
-    fn look_into(
-        alloc: Global,
-        _number: u8,
-        rest: &[u8],
-        value: &Value,
-    ) -> Result<Look, OutOfMemory> {
-        look_along::<T>(alloc, rest, value)
+    fn dropped(alloc: Global, value: &Value) -> Result<Vec<DroppedValue>, OutOfMemory> {
+        let mut dropped = Vec::new(alloc);
+        let Value::Object(members) = value else {
+            return Ok(dropped);
+        };
+        for (name, member) in members.iter() {
+            let step = JsonStep::Named(Text::from_str(alloc, name.as_str())?);
+            append_as::<T>(alloc, &mut dropped, step, member)?;
+        }
+        Ok(dropped)
     }
 }
 

@@ -1,18 +1,20 @@
 //! Members of objects, and the ways to decode them.
 ghost use Rattle.std.specs.Prelude.{◌≡◌, Err, IsTrue, Some, option_map};
-ghost use Rattle.passkey_json.specs.Along.{accepted_shape};
+ghost use Rattle.passkey_json.specs.Along.{accepted_shape, tolerant_shape};
 ghost use Rattle.passkey_json.specs.Fault.{Gives};
-ghost use Rattle.passkey_json.specs.Held.{HasLooked, IsPlaced, IsUnlessRefused, found};
-ghost use Rattle.passkey_json.specs.Kind.{is_array};
+ghost use Rattle.passkey_json.specs.Held.{HasAnswered, IsPlaced, IsUnlessRefused, found};
+ghost use Rattle.passkey_json.specs.Kind.{accepted, is_array};
 ghost use Rattle.passkey_json.specs.Members.{MemberTakes, under, fault_of, decoded_or_fault, required, or_default, if_present, tolerated, required_tolerated, accepted_list};
 ghost use Rattle.serde_json.specs.View.{view};
 
+use crate::blame::JsonBlame;
+use crate::dropped::DroppedValue;
 use crate::floats::holds_float;
 use crate::from_json::FromJson;
 use crate::json_fault::JsonFault;
 use crate::json_refusal::JsonRefusal;
 use crate::list::TolerantList;
-use crate::look::Look;
+use crate::tolerated::Tolerated;
 use passkey_bytes::List;
 use passkey_memory::OutOfMemory;
 use serde_json::Value;
@@ -63,6 +65,15 @@ fn unless_refused<T: Drop>(read: Result<T, JsonRefusal>, default: T) -> Result<T
     }
 }
 
+/// What is asked of a member's value, by the type that it is decoded as.
+#[derive(Clone, Copy)]
+pub(crate) enum Question {
+    /// What in it is to blame.
+    Blame,
+    /// What is left out of it.
+    Dropped,
+}
+
 /// A member of an object, which may be absent. Each way to decode it returns `OutOfMemory` if an
 /// allocation fails, which can only happen for a value that takes memory to decode. If a value is
 /// rejected for which there is no default, the fault is `Float` if the value contains a float, and
@@ -72,9 +83,10 @@ pub struct Member<'a> {
     alloc: Global,
     name: &'static str,
     value: Option<&'a Value>,
-    // a way into the type that the member is decoded as, and what is found there
-    way: Option<&'a [u8]>,
-    look: Result<Look, OutOfMemory>,
+    // what is asked of the value, and the answers
+    question: Option<Question>,
+    blame: Result<JsonBlame, OutOfMemory>,
+    dropped: Result<Vec<DroppedValue>, OutOfMemory>,
 }
 
 impl<'a> Member<'a> {
@@ -85,53 +97,62 @@ impl<'a> Member<'a> {
             alloc,
             name,
             value,
-            way: None,
-            look: Err(OutOfMemory),
+            question: None,
+            blame: Err(OutOfMemory),
+            dropped: Err(OutOfMemory),
         }
     }
 
-    /// A member with this value and any name, into whose type the way leads.
-    pub(crate) fn looked_at(alloc: Global, way: &'a [u8], value: &'a Value) -> Member<'a>
+    /// A member with this value and any name, of which this is asked.
+    pub(crate) fn asked(alloc: Global, question: Question, value: &'a Value) -> Member<'a>
         ensures value { (found result).value ≡ Some (view value.now) }
-        ensures way { option_map (λ w. w.now) result.way ≡ Some way.now }
+        ensures asked { result.question ≡ Some question }
     {
         Member {
             alloc,
             name: "",
             value: Some(value),
-            way: Some(way),
-            look: Err(OutOfMemory),
+            question: Some(question),
+            blame: Err(OutOfMemory),
+            dropped: Err(OutOfMemory),
         }
     }
 
-    /// Returns what was found where the way leads.
-    pub(crate) fn seen(&self) -> Result<Look, OutOfMemory>
-        ensures { result ≡ self.now.look }
+    /// Returns what is to blame, if that was asked and the member was decoded.
+    pub(crate) fn into_blame(self) -> Result<JsonBlame, OutOfMemory>
+        ensures { result ≡ self.entry.blame }
     {
-        self.look
+        self.blame
     }
 
-    /// Looks at the type where the way leads, if there is a way.
-    fn look_at<T: FromJson>(&mut self)
-        ensures same { found self.new ≡ found self.old }
-        ensures looks { HasLooked T.shape self.old self.new }
+    /// Returns what is left out, if that was asked and the member was decoded.
+    pub(crate) fn into_dropped(self) -> Result<Vec<DroppedValue>, OutOfMemory>
+        ensures { result ≡ self.entry.dropped }
     {
-        let (Some(way), Some(value)) = (self.way, self.value) else {
+        self.dropped
+    }
+
+    /// Answers what is asked, by the type that the member is decoded as.
+    fn answer<T: FromJson>(&mut self)
+        ensures same { found self.new ≡ found self.old }
+        ensures answers { HasAnswered T.shape self.old self.new }
+    {
+        let (Some(question), Some(value)) = (self.question, self.value) else {
             return;
         };
-        self.look = match way.split_first() {
-            None => T::look(self.alloc, value),
-            Some((number, rest)) => T::look_into(self.alloc, *number, rest, value),
-        };
+        match question {
+            Question::Blame => self.blame = T::blame(self.alloc, value),
+            Question::Dropped => self.dropped = T::dropped(self.alloc, value),
+        }
     }
 
     /// Decodes a required member. Returns `Missing` if it is absent, and the fault of a rejected value.
     #[tactic(auto, unfolding(crate::specs::Members::required))]
     pub fn required<T: FromJson>(&mut self) -> Result<T, JsonFault>
         ensures gives { Gives (MemberTakes T.takes (found self.old)) (required T.kind (found self.old)) result }
-        ensures looks { HasLooked T.shape self.old self.new }
+        ensures answers { HasAnswered T.shape self.old self.new }
     {
-        self.look_at::<T>();
+        self.answer::<T>();
         match self.value {
             Some(value) => decoded_or_fault(self.alloc, self.name, value),
             None => Err(JsonFault::Missing(self.name)),
@@ -143,9 +164,9 @@ impl<'a> Member<'a> {
     pub fn or_default<T: FromJson>(&mut self, default: T) -> Result<T, JsonFault>
         ensures gives { Gives (MemberTakes T.takes (found self.old)) (or_default default T.kind (found self.old))
             result }
-        ensures looks { HasLooked T.shape self.old self.new }
+        ensures answers { HasAnswered T.shape self.old self.new }
     {
-        self.look_at::<T>();
+        self.answer::<T>();
         match self.value {
             Some(value) => decoded_or_fault(self.alloc, self.name, value),
             None => Ok(default),
@@ -156,9 +177,9 @@ impl<'a> Member<'a> {
     #[tactic(auto, unfolding(crate::specs::Members::if_present))]
     pub fn if_present<T: FromJson>(&mut self) -> Result<Option<T>, JsonFault>
         ensures gives { Gives (MemberTakes T.takes (found self.old)) (if_present T.kind (found self.old)) result }
-        ensures looks { HasLooked T.shape self.old self.new }
+        ensures answers { HasAnswered T.shape self.old self.new }
     {
-        self.look_at::<T>();
+        self.answer::<T>();
         match self.value {
             Some(value) => Ok(Some(decoded_or_fault(self.alloc, self.name, value)?)),
             None => Ok(None),
@@ -171,9 +192,9 @@ impl<'a> Member<'a> {
     pub fn tolerated<T: FromJson>(&mut self, default: T) -> Result<T, JsonFault>
         ensures gives { Gives (MemberTakes T.takes (found self.old)) (tolerated default T.kind (found self.old))
             result }
-        ensures looks { HasLooked T.shape self.old self.new }
+        ensures answers { HasAnswered (tolerant_shape T.kind T.shape) self.old self.new }
     {
-        self.look_at::<T>();
+        self.answer::<Tolerated<T>>();
         let Some(value) = self.value else {
             return Ok(default);
         };
@@ -186,7 +207,7 @@ impl<'a> Member<'a> {
     pub fn required_tolerated<T: FromJson>(&mut self, default: T) -> Result<T, JsonFault>
         ensures gives { Gives (MemberTakes T.takes (found self.old))
             (required_tolerated default T.kind (found self.old)) result }
-        ensures looks { HasLooked T.shape self.old self.new }
+        ensures answers { HasAnswered (tolerant_shape T.kind T.shape) self.old self.new }
     {
         if self.value.is_none() {
             return Err(JsonFault::Missing(self.name));
@@ -200,9 +221,9 @@ impl<'a> Member<'a> {
     #[tactic(auto, unfolding(crate::specs::Members::accepted_list))]
     pub fn accepted_list<T: FromJson>(&mut self) -> Result<Option<List<T>>, JsonFault>
         ensures gives { Gives (MemberTakes is_array (found self.old)) (accepted_list T.kind (found self.old)) result }
-        ensures looks { HasLooked (accepted_shape T.shape) self.old self.new }
+        ensures answers { HasAnswered (tolerant_shape (accepted T.kind) (accepted_shape T.kind T.shape)) self.old self.new }
     {
-        self.look_at::<TolerantList<T>>();
+        self.answer::<Tolerated<TolerantList<T>>>();
         let Some(value) = self.value else {
             return Ok(None);
         };

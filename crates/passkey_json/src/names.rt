@@ -9,10 +9,11 @@ ghost use Rattle.passkey_webauthn.specs.Names.{name_in, value_in};
 ghost use Rattle.serde_json.specs.Data.{string};
 ghost use Rattle.serde_json.specs.View.{view};
 
+use crate::blame::JsonBlame;
 use crate::bytes_form::BytesForm;
+use crate::dropped::DroppedValue;
 use crate::from_json::FromJson;
 use crate::json_refusal::JsonRefusal;
-use crate::look::{Look, look_at_leaf};
 use crate::to_json::ToJson;
 use crate::wanted::WantedJson;
 use passkey_memory::OutOfMemory;
@@ -50,11 +51,12 @@ impl FromJson for PublicKeyCredentialType {
         read_name(value)
     }
 
-    fn look(alloc: Global, value: &Value) -> Result<Look, OutOfMemory> {
-        look_at_leaf(
-            PublicKeyCredentialType::from_value(alloc, value),
-            WantedJson::Name,
-        )
+    fn blame(alloc: Global, _value: &Value) -> Result<JsonBlame, OutOfMemory> {
+        Ok(JsonBlame::wanted(alloc, WantedJson::Name))
+    }
+
+    fn dropped(alloc: Global, _value: &Value) -> Result<Vec<DroppedValue>, OutOfMemory> {
+        Ok(Vec::new(alloc))
     }
 }
 
@@ -75,11 +77,12 @@ impl FromJson for AuthenticatorTransport {
         read_name(value)
     }
 
-    fn look(alloc: Global, value: &Value) -> Result<Look, OutOfMemory> {
-        look_at_leaf(
-            AuthenticatorTransport::from_value(alloc, value),
-            WantedJson::Name,
-        )
+    fn blame(alloc: Global, _value: &Value) -> Result<JsonBlame, OutOfMemory> {
+        Ok(JsonBlame::wanted(alloc, WantedJson::Name))
+    }
+
+    fn dropped(alloc: Global, _value: &Value) -> Result<Vec<DroppedValue>, OutOfMemory> {
+        Ok(Vec::new(alloc))
     }
 }
 

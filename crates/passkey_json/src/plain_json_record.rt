@@ -1,26 +1,31 @@
 //! Records whose members are one table, by which they are decoded and encoded.
 ghost use Rattle.std.specs.Prelude.{◌≡◌, false, IfOk, IfSome, IsTrue, OnOk, map, option_map};
+ghost use Rattle.passkey_json.specs.Blame.{Blames, BlamesPart};
+ghost use Rattle.passkey_json.specs.Dropped.{Adds, Drops, dropped_present};
+ghost use Rattle.passkey_json.specs.Dropped as spec;
 ghost use Rattle.passkey_json.specs.Fault.{Gives, IsFaultOf};
-ghost use Rattle.passkey_json.specs.Held.{GivesAs, HasLooked, found, names_of};
-ghost use Rattle.passkey_json.specs.Look.{entry_of};
+ghost use Rattle.passkey_json.specs.Held.{GivesAs, HasAnswered, found, names_of};
 ghost use Rattle.passkey_json.specs.Members.{MemberTakes, in_object, record_kind, takes_in};
-ghost use Rattle.passkey_json.specs.Table.{AreBack, PlainTable, RowIsBack, encoded_row, entries, looked, members_in, read_row, rows_of, shape_row, table_json, table_shape, takes_of, takes_row};
+ghost use Rattle.passkey_json.specs.Shape.{entry_named, entry_of, present_in, row_at};
+ghost use Rattle.passkey_json.specs.Table.{AreBack, PlainTable, RowIsBack, encoded_row, entries, looked, members_in, read_row, rows_in, rows_of, shape_row, table_json, table_shape, takes_of, takes_row};
 ghost use Rattle.passkey_json.specs.Written.{put_rows, so_far};
 ghost use Rattle.serde_json.specs.View.{view};
 ghost use Rattle.serde_json.specs.Written.{has_float};
 
+use crate::blame::{JsonBlame, JsonReason, JsonStep};
 use crate::bytes_form::BytesForm;
+use crate::dropped::{DroppedValue, append_part};
 use crate::from_json::FromJson;
 use crate::json_encoder::{EncodeResult, JsonEncoder};
 use crate::json_fault::JsonFault;
 use crate::json_record::{JsonRecord, read_nested};
 use crate::json_refusal::JsonRefusal;
-use crate::look::{Form, Look, look_at_row};
-use crate::member::Member;
+use crate::member::{Member, Question};
 use crate::object::Object;
 use crate::record_to_json::RecordToJson;
 use crate::row::Row;
 use crate::to_json::ToJson;
+use crate::wanted::WantedJson;
 use crate::written::ObjectWriter;
 use passkey_memory::OutOfMemory;
 use serde_json::Value;
@@ -48,8 +53,8 @@ pub trait PlainJsonRecord: Drop {
         ensures gives { GivesAs (MemberTakes (takes_row table number) (found member.old)) (λ _. self.new)
             (read_row table number (found member.old) self.old) result }
 
-        // The type that it is decoded as was looked at, if there is a way into it.
-        ensures looks { IfSome (shape_row table number) (λ s. HasLooked s member.old member.new) };
+        // What is asked of it is answered by the type that it is decoded as.
+        ensures answers { IfSome (shape_row table number) (λ s. HasAnswered s member.old member.new) };
 
     /// Encodes the member of the row with this number. Returns `None` if it is absent, or if no row
     /// has the number, and `OutOfMemory` if an allocation fails.
@@ -87,6 +92,34 @@ impl Row {
             Row::Aliased(_, name, other) => object.aliased(name, other),
         }
     }
+
+    /// Returns the member's value, and the name under which it is present.
+    fn present<'a>(&self, value: &'a Value) -> Option<(&'static str, &'a Value)>
+        ensures { option_map (λ p. (p.0.now, view p.1.now)) result
+            ≡ present_in (entry_of self.now) (view value.now) }
+    {
+        let (name, other) = match *self {
+            Row::Named(_, name) => (name, None),
+            Row::Aliased(_, name, other) => (name, Some(other)),
+        };
+        if let Some(member) = value.get(name) {
+            return Some((name, member));
+        }
+        let other = other?;
+        Some((other, value.get(other)?))
+    }
+}
+
+/// Returns the row with this name.
+fn row_named(rows: &'static [Row], name: &str) -> Option<Row>
+    ensures { option_map entry_of result ≡ entry_named (map entry_of rows.now) name.now }
+{
+    for row in rows {
+        if name == row.name() {
+            return Some(*row);
+        }
+    }
+    None
 }
 
 /// Decodes the members in the table's order.
@@ -146,6 +179,72 @@ pub fn find_fault<R: JsonRecord>(
     }
 }
 
+/// Returns what is to blame in the value of the member of the row with this number.
+fn blame_member<R: PlainJsonRecord>(
+    alloc: Global,
+    number: u8,
+    value: &Value,
+) -> Result<JsonBlame, OutOfMemory>
+    ensures { IfSome (shape_row R.table number) (λ s. IfOk result (Blames s (view value.now))) }
+{
+    let mut member = Member::asked(alloc, Question::Blame, value);
+    let put = R::blank(alloc).put(number, &mut member);
+    drop(put);
+    member.into_blame()
+}
+
+/// Lists what is left out of the value of the member of the row with this number.
+fn dropped_member<R: PlainJsonRecord>(
+    alloc: Global,
+    number: u8,
+    value: &Value,
+) -> Result<Vec<DroppedValue>, OutOfMemory>
+    ensures { IfSome (shape_row R.table number) (λ s. IfOk result (λ v. Drops s (view value.now) v.items)) }
+{
+    let mut member = Member::asked(alloc, Question::Dropped, value);
+    let put = R::blank(alloc).put(number, &mut member);
+    drop(put);
+    member.into_dropped()
+}
+
+/// Appends what is left out of the row's member, if it is present.
+fn append_row<R: PlainJsonRecord>(
+    alloc: Global,
+    dropped: &mut Vec<DroppedValue>,
+    row: &Row,
+    value: &Value,
+) -> Result<(), OutOfMemory>
+    ensures { IfSome (shape_row R.table (entry_of row.now).number) (λ s. OnOk result (Adds
+        (dropped_present (spec.dropped s) (present_in (entry_of row.now) (view value.now)))
+        dropped.old.items dropped.new.items)) }
+{
+    let Some((name, member)) = row.present(value) else {
+        return Ok(());
+    };
+    let part = dropped_member::<R>(alloc, row.number(), member)?;
+    append_part(alloc, dropped, &JsonStep::Member(name), part)
+}
+
+/// Returns what is to blame in the member with this name.
+fn blame_row<R: PlainJsonRecord>(
+    alloc: Global,
+    name: &str,
+    value: &Value,
+) -> Result<JsonBlame, OutOfMemory>
+    ensures { IfOk result (BlamesPart (row_at (rows_in R.table.members) name.now (view value.now))) }
+{
+    let object = JsonBlame::wanted(alloc, WantedJson::Object);
+    let Some(row) = row_named(R::rows(), name) else {
+        return Ok(object);
+    };
+    match row.present(value) {
+        Some((name, member)) => {
+            blame_member::<R>(alloc, row.number(), member)?.under(JsonStep::Member(name))
+        }
+        None => Ok(object),
+    }
+}
+
 impl<R: PlainJsonRecord> FromJson for R {
     ghost kind = { record_kind (members_in R.table) };
 
@@ -157,21 +256,23 @@ impl<R: PlainJsonRecord> FromJson for R {
         read_nested(alloc, value)
     }
 
-    fn look(alloc: Global, value: &Value) -> Result<Look, OutOfMemory> {
-        let fault = find_fault::<R>(alloc, value)?;
-        Ok(Look {
-            is_accepted: fault.is_none(),
-            form: Form::Record(fault, R::rows()),
-        })
+    fn blame(alloc: Global, value: &Value) -> Result<JsonBlame, OutOfMemory> {
+        let reason = match find_fault::<R>(alloc, value)? {
+            Some(JsonFault::Refused(name)) => return blame_row::<R>(alloc, name, value),
+            Some(JsonFault::Float(name)) => return blame_row::<R>(alloc, name, value),
+            Some(JsonFault::Missing(name)) => JsonReason::Missing(name),
+            Some(JsonFault::Repeated(name)) => JsonReason::Repeated(name),
+            _ => JsonReason::Wanted(WantedJson::Object),
+        };
+        Ok(JsonBlame::whole(alloc, reason))
     }
 
-    fn look_into(
-        alloc: Global,
-        number: u8,
-        rest: &[u8],
-        value: &Value,
-    ) -> Result<Look, OutOfMemory> {
-        look_at_row::<R>(alloc, number, rest, value)
+    fn dropped(alloc: Global, value: &Value) -> Result<Vec<DroppedValue>, OutOfMemory> {
+        let mut dropped = Vec::new(alloc);
+        for row in R::rows() {
+            append_row::<R>(alloc, &mut dropped, row, value)?;
+        }
+        Ok(dropped)
     }
 }
 

@@ -4,10 +4,11 @@ ghost use Rattle.passkey_json.specs.declared.wanted.WantedJson.TheVariants as wa
 ghost use Rattle.std.specs.Prelude.{Some};
 ghost use Rattle.passkey_json.specs.Requirements.{attachment_name, attachment_own, attachment_value, attachments, resident_key_name, resident_key_own, resident_key_value, resident_keys, user_verification_name, user_verification_own, user_verification_value, user_verifications};
 
+use crate::blame::JsonBlame;
 use crate::bytes_form::BytesForm;
+use crate::dropped::DroppedValue;
 use crate::from_json::FromJson;
 use crate::json_refusal::JsonRefusal;
-use crate::look::{Look, look_at_leaf};
 use crate::names::{read_name, written_name};
 use crate::to_json::ToJson;
 use crate::wanted::WantedJson;
@@ -57,11 +58,12 @@ impl FromJson for AuthenticatorAttachment {
         read_name(value)
     }
 
-    fn look(alloc: Global, value: &Value) -> Result<Look, OutOfMemory> {
-        look_at_leaf(
-            AuthenticatorAttachment::from_value(alloc, value),
-            WantedJson::Name,
-        )
+    fn blame(alloc: Global, _value: &Value) -> Result<JsonBlame, OutOfMemory> {
+        Ok(JsonBlame::wanted(alloc, WantedJson::Name))
+    }
+
+    fn dropped(alloc: Global, _value: &Value) -> Result<Vec<DroppedValue>, OutOfMemory> {
+        Ok(Vec::new(alloc))
     }
 }
 
@@ -117,11 +119,12 @@ impl FromJson for ResidentKeyRequirement {
         read_name(value)
     }
 
-    fn look(alloc: Global, value: &Value) -> Result<Look, OutOfMemory> {
-        look_at_leaf(
-            ResidentKeyRequirement::from_value(alloc, value),
-            WantedJson::Name,
-        )
+    fn blame(alloc: Global, _value: &Value) -> Result<JsonBlame, OutOfMemory> {
+        Ok(JsonBlame::wanted(alloc, WantedJson::Name))
+    }
+
+    fn dropped(alloc: Global, _value: &Value) -> Result<Vec<DroppedValue>, OutOfMemory> {
+        Ok(Vec::new(alloc))
     }
 }
 
@@ -179,11 +182,12 @@ impl FromJson for UserVerificationRequirement {
         read_name(value)
     }
 
-    fn look(alloc: Global, value: &Value) -> Result<Look, OutOfMemory> {
-        look_at_leaf(
-            UserVerificationRequirement::from_value(alloc, value),
-            WantedJson::Name,
-        )
+    fn blame(alloc: Global, _value: &Value) -> Result<JsonBlame, OutOfMemory> {
+        Ok(JsonBlame::wanted(alloc, WantedJson::Name))
+    }
+
+    fn dropped(alloc: Global, _value: &Value) -> Result<Vec<DroppedValue>, OutOfMemory> {
+        Ok(Vec::new(alloc))
     }
 }
 

@@ -1,9 +1,11 @@
 //! Values that may be rejected.
+ghost use Rattle.passkey_json.specs.Along.{tolerant_shape};
 ghost use Rattle.passkey_json.specs.Kind.{tolerated};
 
-use crate::from_json::FromJson;
+use crate::blame::JsonBlame;
+use crate::dropped::DroppedValue;
+use crate::from_json::{FromJson, is_accepted};
 use crate::json_refusal::JsonRefusal;
-use crate::look::Look;
 use passkey_memory::OutOfMemory;
 use serde_json::Value;
 use std::alloc::Global;
@@ -27,7 +29,7 @@ impl<T: FromJson> FromJson for Tolerated<T> {
 
     ghost takes = { T.takes };
 
-    ghost shape = { T.shape };
+    ghost shape = { tolerant_shape T.kind T.shape };
 
     fn from_value(alloc: Global, value: &Value) -> Result<Tolerated<T>, JsonRefusal> {
         match T::from_value(alloc, value) {
@@ -37,20 +39,18 @@ impl<T: FromJson> FromJson for Tolerated<T> {
         }
     }
 
-    fn look(alloc: Global, value: &Value) -> Result<Look, OutOfMemory> {
-        let look = T::look(alloc, value)?;
-        Ok(Look {
-            is_accepted: true,
-            form: look.form,
-        })
+    fn blame(alloc: Global, value: &Value) -> Result<JsonBlame, OutOfMemory> {
+        T::blame(alloc, value)
     }
 
-    fn look_into(
-        alloc: Global,
-        number: u8,
-        rest: &[u8],
-        value: &Value,
-    ) -> Result<Look, OutOfMemory> {
-        T::look_into(alloc, number, rest, value)
+    fn dropped(alloc: Global, value: &Value) -> Result<Vec<DroppedValue>, OutOfMemory> {
+        if is_accepted::<T>(alloc, value)? {
+            return T::dropped(alloc, value);
+        }
+        let blame = T::blame(alloc, value)?;
+        let path = Vec::new(alloc);
+        let mut dropped = Vec::new(alloc);
+        dropped.push(DroppedValue { path, blame })?;
+        Ok(dropped)
     }
 }

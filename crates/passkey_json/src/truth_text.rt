@@ -5,10 +5,11 @@ ghost use Rattle.std.specs.Prelude.{◌≡◌, false};
 ghost use Rattle.passkey_json.specs.Kind.{truth_named, truth_text};
 ghost use Rattle.serde_json.specs.Data.{boolean};
 
+use crate::blame::JsonBlame;
 use crate::bytes_form::BytesForm;
+use crate::dropped::DroppedValue;
 use crate::from_json::FromJson;
 use crate::json_refusal::JsonRefusal;
-use crate::look::{Look, look_at_leaf};
 use crate::to_json::ToJson;
 use crate::wanted::WantedJson;
 use passkey_memory::OutOfMemory;
@@ -64,8 +65,12 @@ impl FromJson for TruthText {
         }
     }
 
-    fn look(alloc: Global, value: &Value) -> Result<Look, OutOfMemory> {
-        look_at_leaf(TruthText::from_value(alloc, value), WantedJson::BooleanText)
+    fn blame(alloc: Global, _value: &Value) -> Result<JsonBlame, OutOfMemory> {
+        Ok(JsonBlame::wanted(alloc, WantedJson::BooleanText))
+    }
+
+    fn dropped(alloc: Global, _value: &Value) -> Result<Vec<DroppedValue>, OutOfMemory> {
+        Ok(Vec::new(alloc))
     }
 }
 

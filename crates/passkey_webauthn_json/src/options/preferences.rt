@@ -5,7 +5,7 @@ ghost use Rattle.passkey_json.specs.Shape.{leaf};
 ghost use Rattle.passkey_json.specs.declared.wanted.WantedJson.TheVariants.{Name};
 
 use passkey_json::{
-    BytesForm, FromJson, JsonRefusal, Look, ToJson, WantedJson, look_at_leaf, read_name,
+    BytesForm, DroppedValue, FromJson, JsonBlame, JsonRefusal, ToJson, WantedJson, read_name,
     written_name,
 };
 use passkey_memory::OutOfMemory;
@@ -57,11 +57,12 @@ impl FromJson for PublicKeyCredentialHints {
         read_name(value)
     }
 
-    fn look(alloc: Global, value: &Value) -> Result<Look, OutOfMemory> {
-        look_at_leaf(
-            PublicKeyCredentialHints::from_value(alloc, value),
-            WantedJson::Name,
-        )
+    fn blame(alloc: Global, _value: &Value) -> Result<JsonBlame, OutOfMemory> {
+        Ok(JsonBlame::wanted(alloc, WantedJson::Name))
+    }
+
+    fn dropped(alloc: Global, _value: &Value) -> Result<Vec<DroppedValue>, OutOfMemory> {
+        Ok(Vec::new(alloc))
     }
 }
 
@@ -122,11 +123,12 @@ impl FromJson for AttestationConveyancePreference {
         read_name(value)
     }
 
-    fn look(alloc: Global, value: &Value) -> Result<Look, OutOfMemory> {
-        look_at_leaf(
-            AttestationConveyancePreference::from_value(alloc, value),
-            WantedJson::Name,
-        )
+    fn blame(alloc: Global, _value: &Value) -> Result<JsonBlame, OutOfMemory> {
+        Ok(JsonBlame::wanted(alloc, WantedJson::Name))
+    }
+
+    fn dropped(alloc: Global, _value: &Value) -> Result<Vec<DroppedValue>, OutOfMemory> {
+        Ok(Vec::new(alloc))
     }
 }
 
@@ -213,11 +215,12 @@ impl FromJson for AttestationStatementFormatIdentifiers {
         read_name(value)
     }
 
-    fn look(alloc: Global, value: &Value) -> Result<Look, OutOfMemory> {
-        look_at_leaf(
-            AttestationStatementFormatIdentifiers::from_value(alloc, value),
-            WantedJson::Name,
-        )
+    fn blame(alloc: Global, _value: &Value) -> Result<JsonBlame, OutOfMemory> {
+        Ok(JsonBlame::wanted(alloc, WantedJson::Name))
+    }
+
+    fn dropped(alloc: Global, _value: &Value) -> Result<Vec<DroppedValue>, OutOfMemory> {
+        Ok(Vec::new(alloc))
     }
 }
 

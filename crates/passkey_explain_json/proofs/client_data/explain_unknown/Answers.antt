@@ -1,8 +1,8 @@
 use Rattle.std.proofs.Common.{◌≡◌, ◌∙◌, ◌++◌, ◌∷◌, [], List, ℕ, map, refl, sym, ap}
 use Rattle.passkey_explain_json.proofs.ClientData.{no_float_left, float_explained}
-use Rattle.passkey_explain_json.specs.Blame.{step_of}
-use Rattle.passkey_explain_json.specs.declared.blame.JsonStep.{JsonStep}
-use Rattle.passkey_explain_json.specs.declared.blame.JsonStep.TheVariants as code
+use Rattle.passkey_json.specs.Blame.{step_of}
+use Rattle.passkey_json.specs.declared.blame.JsonStep.{JsonStep}
+use Rattle.passkey_json.specs.declared.blame.JsonStep.TheVariants as code
 use Rattle.passkey_json.specs.Shape.{named}
 use Rattle.serde_json.proofs.Views.{view-Object}
 use Rattle.serde_json.specs.Data.{object}
