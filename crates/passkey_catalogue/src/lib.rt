@@ -14,6 +14,7 @@ mod form;
 mod key;
 mod kind;
 mod rewriting;
+mod rows;
 mod source;
 mod statement;
 mod structure;
