@@ -95,13 +95,9 @@ fn once(
     kind: Kind,
     bytes: &[u8],
 ) -> Result<Vec<u8>, RunFault> {
-    match decode_as(alloc, tries, kind, source, bytes) {
-        Some(decoded) => {
-            let (encoding, _len) = decoded.outcome?;
-            Ok(encoding)
-        }
-        None => Err(RunFault::UnknownKind),
-    }
+    let decoded = decode_as(alloc, tries, kind, source, bytes).ok_or(RunFault::UnknownKind)?;
+    let (encoding, _len) = decoded.outcome?;
+    Ok(encoding)
 }
 
 /// Returns the output of a message's row.
