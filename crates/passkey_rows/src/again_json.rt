@@ -139,6 +139,16 @@ fn in_numbers<R: JsonRecord + ToJson + CopiedRecord>(
     Ok(encoding_again(alloc, tries, &record, BytesForm::Numbers)?)
 }
 
+fn record_again<R: JsonRecord + ToJson + CopiedRecord>(
+    alloc: Global,
+    tries: &mut Tries,
+    text: &str,
+) -> Result<String, RunFault> {
+    let numbers = in_numbers::<R>(alloc, tries, text)?;
+    let record = decoded::<R>(alloc, numbers.as_str())?;
+    Ok(encoding_again(alloc, tries, &record, BytesForm::Base64Url)?)
+}
+
 /// Returns the client data's text.
 pub fn client_data_text<E: ClientDataExtra>(
     alloc: Global,
@@ -204,6 +214,17 @@ fn copied_client_data<E: ClientDataExtra>(
     client_data_text_again(alloc, tries, data)
 }
 
+fn client_data_again<E: ClientDataExtra>(
+    alloc: Global,
+    tries: &mut Tries,
+    text: &str,
+) -> Result<String, RunFault> {
+    let mut data = client_data_of::<E>(alloc, text)?;
+    let text = copied_client_data(alloc, tries, &mut data);
+    drop(data);
+    Ok(text?)
+}
+
 /// A JSON text of which the parts are replaced by copies.
 #[derive(Drop)]
 struct InParts<'a, 'b> {
@@ -215,16 +236,13 @@ struct InParts<'a, 'b> {
 /// The calls of the dispatch.
 impl<'a, 'b> InParts<'a, 'b> {
     fn visit_record<R: JsonRecord + ToJson + CopiedRecord>(self) -> Result<String, RunFault> {
-        let numbers = in_numbers::<R>(self.alloc, self.tries, self.text)?;
-        let record = decoded::<R>(self.alloc, numbers.as_str())?;
-        Ok(encoding_again(self.alloc, self.tries, &record, BytesForm::Base64Url)?)
+        let (alloc, text) = (self.alloc, self.text);
+        record_again::<R>(alloc, self.tries, text)
     }
 
     fn visit_client_data<E: ClientDataExtra>(self) -> Result<String, RunFault> {
-        let mut data = client_data_of::<E>(self.alloc, self.text)?;
-        let text = copied_client_data(self.alloc, self.tries, &mut data);
-        drop(data);
-        Ok(text?)
+        let (alloc, text) = (self.alloc, self.text);
+        client_data_again::<E>(alloc, self.tries, text)
     }
 }
 

@@ -44,32 +44,36 @@ struct InParts<'a, 'b> {
 /// The calls of the dispatches.
 impl<'a, 'b> InParts<'a, 'b> {
     fn visit_item(self) -> Result<Vec<u8>, RunFault> {
+        let (alloc, bytes) = (self.alloc, self.bytes);
         if self.is_by_item {
             return Err(RunFault::UnknownKind);
         }
-        item_again(self.alloc, self.tries, self.bytes)
+        item_again(alloc, self.tries, bytes)
     }
 
     fn visit_data(self) -> Result<Vec<u8>, RunFault> {
+        let (alloc, bytes) = (self.alloc, self.bytes);
         if self.is_by_item {
             return Err(RunFault::UnknownKind);
         }
-        auth_again(self.alloc, self.tries, self.bytes)
+        auth_again(alloc, self.tries, bytes)
     }
 
     fn visit_message<M: Message + Copied + ToCbor>(self) -> Result<Vec<u8>, RunFault> {
+        let (alloc, bytes) = (self.alloc, self.bytes);
         if self.is_by_item {
-            by_item::<M>(self.alloc, self.tries, self.bytes)
+            by_item::<M>(alloc, self.tries, bytes)
         } else {
-            message_again::<M>(self.alloc, self.tries, self.bytes)
+            message_again::<M>(alloc, self.tries, bytes)
         }
     }
 
     fn visit_info(self) -> Result<Vec<u8>, RunFault> {
+        let (alloc, bytes) = (self.alloc, self.bytes);
         if self.is_by_item {
-            info_by_items(self.alloc, self.tries, self.bytes)
+            info_by_items(alloc, self.tries, bytes)
         } else {
-            message_again::<get_info::Response>(self.alloc, self.tries, self.bytes)
+            message_again::<get_info::Response>(alloc, self.tries, bytes)
         }
     }
 
