@@ -13,12 +13,13 @@ TABLES = [
     ("ClientKind", "passkey_catalogue/src/client_kind.rt", True),
 ]
 NUMBERS = "passkey_catalogue/src/kind.rt"
+FOUND = "passkey_inspect/src/kind.rt"
 
 
 def rows_of(table):
-    """Returns the rows of an enumeration's table: each name, and the value. A long row is on several lines."""
+    """Returns the rows of an enumeration's table: each name, and the value. A row may have the standard besides."""
     enumeration, file, _ = table
-    return re.findall(rf'\(\s*"([a-z0-9-]+)",\s*{enumeration}::(\w+),?\s*\)', (CRATES / file).read_text(encoding="utf-8"))
+    return re.findall(rf'\("([a-z0-9-]+)", {enumeration}::(\w+)(?:, "[^"]+")?\)', (CRATES / file).read_text(encoding="utf-8"))
 
 
 def names_of(table):
@@ -58,6 +59,13 @@ def of_bytes():
 def has_text(name):
     """Whether libpuffgrit says what is in inputs of this kind: of all but attestation statements and structures of a TPM."""
     return not name.startswith(("att-", "tpm-"))
+
+
+def found():
+    """Returns the kinds that passkey_inspect finds where none is named."""
+    text = (CRATES / FOUND).read_text(encoding="utf-8").partition("FOUND_KINDS")[2].partition("pub fn")[0]
+    values = {f"{it[0]}::{value}": name for it in TABLES for name, value in rows_of(it)}
+    return {values[it] for it in re.findall(r"\w+Kind::\w+", text) if it in values} | {"cbor"}
 
 
 def of_show():

@@ -49,12 +49,10 @@ fn call_named(name: &str) -> Option<Call> {
         "rewrite-info" => Some(Call::DecodeAndEncode(Kind::Info)),
         "rewrite-mc-response" => Some(Call::DecodeAndEncode(Kind::MakeResponse)),
         "rewrite-ga-request" => Some(Call::DecodeAndEncode(Kind::GetRequest)),
-        "creation" => Some(Call::Json(JsonKind::Creation)),
-        "request" => Some(Call::Json(JsonKind::Request)),
-        "created" => Some(Call::Json(JsonKind::Created)),
-        "authenticated" => Some(Call::Json(JsonKind::Authenticated)),
-        "client-data" => Some(Call::Json(JsonKind::ClientData)),
-        _ => None,
+        _ => match passkey_run::Kind::from_name(name) {
+            Some(passkey_run::Kind::Json(kind)) => Some(Call::Json(kind)),
+            _ => None,
+        },
     }
 }
 

@@ -1,8 +1,6 @@
 -- What an input of each kind is, and the kinds' names and numbers.
 use Rattle.std.specs.Prelude.{ℕ, Bool, List, false, Option, Some, None, is_some, option_map}
 use Rattle.passkey_attestation.specs.declared.format.AttestationFormat.TheVariants as format
-use Rattle.passkey_commands.specs.bio_enrollment.BioRequest.{bio_request}
-use Rattle.passkey_commands.specs.bio_enrollment.BioResponse.{bio_response}
 use Rattle.passkey_catalogue.specs.CtapKinds.{ctap_kinds}
 use Rattle.passkey_catalogue.specs.ClientKinds.{client_kinds}
 use Rattle.passkey_catalogue.specs.Numbers.{value_from}
@@ -16,25 +14,10 @@ use Rattle.passkey_catalogue.specs.declared.form.Form.TheVariants as form
 use Rattle.passkey_catalogue.specs.declared.form.Form.{Form}
 use Rattle.passkey_catalogue.specs.declared.kind.Kind.TheVariants as kind
 use Rattle.passkey_catalogue.specs.declared.kind.Kind.{Kind}
-use Rattle.passkey_commands.specs.client_pin.PinRequest.{pin_request}
-use Rattle.passkey_commands.specs.client_pin.PinResponse.{pin_response}
-use Rattle.passkey_commands.specs.config.CfgRequest.{cfg_request}
-use Rattle.passkey_commands.specs.config.MinPinLengthParameters.{min_pin_length_parameters}
-use Rattle.passkey_commands.specs.config.VendorParameters.{vendor_parameters}
-use Rattle.passkey_commands.specs.credential_management.CmRequest.{cm_request}
-use Rattle.passkey_commands.specs.credential_management.CmResponse.{cm_response}
-use Rattle.passkey_registered.specs.extensions.GetAssertionInputs.{get_assertion_inputs}
-use Rattle.passkey_registered.specs.extensions.GetAssertionOutputs.{get_assertion_outputs}
-use Rattle.passkey_registered.specs.extensions.GetAssertionUnsigned.{get_assertion_unsigned}
-use Rattle.passkey_registered.specs.extensions.MakeCredentialInputs.{make_credential_inputs}
-use Rattle.passkey_registered.specs.extensions.MakeCredentialOutputs.{make_credential_outputs}
-use Rattle.passkey_registered.specs.extensions.MakeCredentialUnsigned.{make_credential_unsigned}
-use Rattle.passkey_registered.specs.get_info.Information.{information}
+use Rattle.passkey_commands.specs as commands
 use Rattle.passkey_kinds.specs.Numbered.{numbered_fields, table_fields}
 use Rattle.passkey_kinds.specs.Words.{PlainTable, plain_tree}
-use Rattle.passkey_commands.specs.large_blobs.LargeBlob.{large_blob}
-use Rattle.passkey_commands.specs.large_blobs.LbRequest.{lb_request}
-use Rattle.passkey_commands.specs.large_blobs.LbResponse.{lb_response}
+use Rattle.passkey_registered.specs as registered
 use Rattle.passkey_run.specs.Kinds.{bytes_definition}
 use Rattle.passkey_run.specs.Definition.{Definition, message, other}
 use Rattle.passkey_run.specs.Kind.{bytes_kinds, json_kinds}
@@ -50,26 +33,26 @@ abbrev by_names : {M : Type 0} → PlainTable M → Definition Form
 by_names t = message (table_fields false t) (plain_tree t)
 
 abbrev pub ctap_definition : CtapKind → Definition Form
-ctap_definition ctap.PinRequest = by_table pin_request
-ctap_definition ctap.PinResponse = by_table pin_response
-ctap_definition ctap.BioRequest = by_table bio_request
-ctap_definition ctap.BioResponse = by_table bio_response
-ctap_definition ctap.CredentialRequest = by_table cm_request
-ctap_definition ctap.CredentialResponse = by_table cm_response
-ctap_definition ctap.BlobsRequest = by_table lb_request
-ctap_definition ctap.BlobsResponse = by_table lb_response
-ctap_definition ctap.BlobsEntry = by_table large_blob
-ctap_definition ctap.ConfigRequest = by_table cfg_request
-ctap_definition ctap.ConfigMinPinLength = by_table min_pin_length_parameters
-ctap_definition ctap.ConfigVendor = by_table vendor_parameters
+ctap_definition ctap.PinRequest = by_table commands.client_pin.PinRequest.pin_request
+ctap_definition ctap.PinResponse = by_table commands.client_pin.PinResponse.pin_response
+ctap_definition ctap.BioRequest = by_table commands.bio_enrollment.BioRequest.bio_request
+ctap_definition ctap.BioResponse = by_table commands.bio_enrollment.BioResponse.bio_response
+ctap_definition ctap.CredentialRequest = by_table commands.credential_management.CmRequest.cm_request
+ctap_definition ctap.CredentialResponse = by_table commands.credential_management.CmResponse.cm_response
+ctap_definition ctap.BlobsRequest = by_table commands.large_blobs.LbRequest.lb_request
+ctap_definition ctap.BlobsResponse = by_table commands.large_blobs.LbResponse.lb_response
+ctap_definition ctap.BlobsEntry = by_table commands.large_blobs.LargeBlob.large_blob
+ctap_definition ctap.ConfigRequest = by_table commands.config.CfgRequest.cfg_request
+ctap_definition ctap.ConfigMinPinLength = by_table commands.config.MinPinLengthParameters.min_pin_length_parameters
+ctap_definition ctap.ConfigVendor = by_table commands.config.VendorParameters.vendor_parameters
 ctap_definition ctap.Key = other form.Key
-ctap_definition ctap.Info23 = by_table information
-ctap_definition ctap.MakeInputs = by_names make_credential_inputs
-ctap_definition ctap.MakeOutputs = by_names make_credential_outputs
-ctap_definition ctap.MakeUnsigned = by_names make_credential_unsigned
-ctap_definition ctap.GetInputs = by_names get_assertion_inputs
-ctap_definition ctap.GetOutputs = by_names get_assertion_outputs
-ctap_definition ctap.GetUnsigned = by_names get_assertion_unsigned
+ctap_definition ctap.Info23 = by_table registered.get_info.Information.information
+ctap_definition ctap.MakeInputs = by_names registered.extensions.MakeCredentialInputs.make_credential_inputs
+ctap_definition ctap.MakeOutputs = by_names registered.extensions.MakeCredentialOutputs.make_credential_outputs
+ctap_definition ctap.MakeUnsigned = by_names registered.extensions.Unsigned.make_credential_unsigned
+ctap_definition ctap.GetInputs = by_names registered.extensions.GetAssertionInputs.get_assertion_inputs
+ctap_definition ctap.GetOutputs = by_names registered.extensions.GetAssertionOutputs.get_assertion_outputs
+ctap_definition ctap.GetUnsigned = by_names registered.extensions.Unsigned.get_assertion_unsigned
 ctap_definition ctap.PackedStatement = other (form.Statement format.Packed)
 ctap_definition ctap.TpmStatement = other (form.Statement format.Tpm)
 ctap_definition ctap.AndroidKeyStatement = other (form.Statement format.AndroidKey)

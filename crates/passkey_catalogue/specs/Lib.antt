@@ -6,4 +6,5 @@ pub mod Explaining
 pub mod JsonTexts
 pub mod Numbers
 pub mod Rewriting
+pub mod Rows
 pub mod Sources

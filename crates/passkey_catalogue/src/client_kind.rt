@@ -2,6 +2,7 @@
 ghost use Rattle.std.specs.Prelude.{◌≡◌};
 ghost use Rattle.passkey_catalogue.specs.ClientKinds.{client_kinds, client_own, client_source};
 
+use crate::rows::{names, source};
 use passkey_webauthn::EnumNames;
 
 /// What a JSON text that a client takes or gives is decoded as, beside `JsonKind` (WebAuthn Level 3).
@@ -29,24 +30,33 @@ pub enum ClientKind {
     Capabilities,
 }
 
+/// The kinds: the name of each, its value, and the standard that defines what its inputs are, with the
+/// section. `$of` is the macro that makes something of them.
+macro_rules! kinds {
+    ($of:ident $(, $with:expr)?) => {
+        $of! {
+            $($with,)?
+            ("signal-unknown", ClientKind::UnknownCredential, "WebAuthn Level 3, section 5.1.10.2"),
+            ("signal-accepted", ClientKind::AcceptedCredentials, "WebAuthn Level 3, section 5.1.10.3"),
+            ("signal-details", ClientKind::UserDetails, "WebAuthn Level 3, section 5.1.10.4"),
+            ("client-inputs", ClientKind::ClientInputs, "WebAuthn Level 3, section 9.3"),
+            ("client-outputs", ClientKind::ClientOutputs, "WebAuthn Level 3, section 9.4"),
+            ("mediated-creation", ClientKind::MediatedCreation, "WebAuthn Level 3, section 5.1.3"),
+            ("mediated-request", ClientKind::MediatedRequest, "WebAuthn Level 3, section 5.1.4"),
+            ("client-data-top", ClientKind::TopOrigin, "WebAuthn Level 3, section 5.8.1"),
+            ("client-data-payment", ClientKind::Payment, "Secure Payment Confirmation"),
+            ("capabilities", ClientKind::Capabilities, "WebAuthn Level 3, section 5.1.7"),
+        }
+    };
+}
+
 impl EnumNames for ClientKind {
     ghost table = { client_kinds };
 
     ghost name_is_own = { client_own };
 
     fn table() -> &'static [(&'static str, ClientKind)] {
-        &[
-            ("signal-unknown", ClientKind::UnknownCredential),
-            ("signal-accepted", ClientKind::AcceptedCredentials),
-            ("signal-details", ClientKind::UserDetails),
-            ("client-inputs", ClientKind::ClientInputs),
-            ("client-outputs", ClientKind::ClientOutputs),
-            ("mediated-creation", ClientKind::MediatedCreation),
-            ("mediated-request", ClientKind::MediatedRequest),
-            ("client-data-top", ClientKind::TopOrigin),
-            ("client-data-payment", ClientKind::Payment),
-            ("capabilities", ClientKind::Capabilities),
-        ]
+        kinds!(names)
     }
 }
 
@@ -54,16 +64,5 @@ impl EnumNames for ClientKind {
 pub(crate) fn client_source(kind: ClientKind) -> &'static str
     ensures { result.now ≡ client_source kind }
 {
-    match kind {
-        ClientKind::UnknownCredential => "WebAuthn Level 3, section 5.1.10.2",
-        ClientKind::AcceptedCredentials => "WebAuthn Level 3, section 5.1.10.3",
-        ClientKind::UserDetails => "WebAuthn Level 3, section 5.1.10.4",
-        ClientKind::ClientInputs => "WebAuthn Level 3, section 9.3",
-        ClientKind::ClientOutputs => "WebAuthn Level 3, section 9.4",
-        ClientKind::MediatedCreation => "WebAuthn Level 3, section 5.1.3",
-        ClientKind::MediatedRequest => "WebAuthn Level 3, section 5.1.4",
-        ClientKind::TopOrigin => "WebAuthn Level 3, section 5.8.1",
-        ClientKind::Payment => "Secure Payment Confirmation",
-        ClientKind::Capabilities => "WebAuthn Level 3, section 5.1.7",
-    }
+    kinds!(source, kind)
 }

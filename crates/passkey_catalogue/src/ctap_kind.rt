@@ -2,6 +2,7 @@
 ghost use Rattle.std.specs.Prelude.{◌≡◌};
 ghost use Rattle.passkey_catalogue.specs.CtapKinds.{ctap_kinds, ctap_own, ctap_source};
 
+use crate::rows::{names, source};
 use passkey_webauthn::EnumNames;
 
 /// What bytes of CTAP2 are decoded as, beside `BytesKind`: messages of its other commands, and what is
@@ -70,44 +71,53 @@ pub enum CtapKind {
     PubArea,
 }
 
+/// The kinds: the name of each, its value, and the standard that defines what its inputs are, with the
+/// section. The place is the number in C. `$of` is the macro that makes something of them.
+macro_rules! kinds {
+    ($of:ident $(, $with:expr)?) => {
+        $of! {
+            $($with,)?
+            ("pin-request", CtapKind::PinRequest, "CTAP 2.1, section 6.5"),
+            ("pin-response", CtapKind::PinResponse, "CTAP 2.1, section 6.5"),
+            ("bio-request", CtapKind::BioRequest, "CTAP 2.1, section 6.7"),
+            ("bio-response", CtapKind::BioResponse, "CTAP 2.1, section 6.7"),
+            ("cm-request", CtapKind::CredentialRequest, "CTAP 2.1, section 6.8"),
+            ("cm-response", CtapKind::CredentialResponse, "CTAP 2.1, section 6.8"),
+            ("lb-request", CtapKind::BlobsRequest, "CTAP 2.1, section 6.10"),
+            ("lb-response", CtapKind::BlobsResponse, "CTAP 2.1, section 6.10"),
+            ("lb-entry", CtapKind::BlobsEntry, "CTAP 2.1, section 6.10.3"),
+            ("cfg-request", CtapKind::ConfigRequest, "CTAP 2.1, section 6.11"),
+            ("cfg-min-pin-length", CtapKind::ConfigMinPinLength, "CTAP 2.1, section 6.11.4"),
+            ("cfg-vendor", CtapKind::ConfigVendor, "CTAP 2.1, section 6.11.3"),
+            ("cose-key", CtapKind::Key, "RFC 9052, section 7"),
+            ("info-23", CtapKind::Info23, "CTAP 2.3, section 6.4"),
+            ("mc-inputs", CtapKind::MakeInputs, "CTAP 2.3, section 6.1"),
+            ("mc-outputs", CtapKind::MakeOutputs, "WebAuthn Level 3, section 6.1"),
+            ("mc-unsigned", CtapKind::MakeUnsigned, "CTAP 2.3, section 6.1"),
+            ("ga-inputs", CtapKind::GetInputs, "CTAP 2.3, section 6.2"),
+            ("ga-outputs", CtapKind::GetOutputs, "WebAuthn Level 3, section 6.1"),
+            ("ga-unsigned", CtapKind::GetUnsigned, "CTAP 2.3, section 6.2"),
+            ("att-packed", CtapKind::PackedStatement, "WebAuthn Level 3, section 8.2"),
+            ("att-tpm", CtapKind::TpmStatement, "WebAuthn Level 3, section 8.3"),
+            ("att-android-key", CtapKind::AndroidKeyStatement, "WebAuthn Level 3, section 8.4"),
+            ("att-android-safetynet", CtapKind::SafetyNetStatement, "WebAuthn Level 3, section 8.5"),
+            ("att-fido-u2f", CtapKind::FidoU2fStatement, "WebAuthn Level 3, section 8.6"),
+            ("att-none", CtapKind::NoneStatement, "WebAuthn Level 3, section 8.7"),
+            ("att-apple", CtapKind::AppleStatement, "WebAuthn Level 3, section 8.8"),
+            ("att-compound", CtapKind::CompoundStatement, "WebAuthn Level 3, section 8.9"),
+            ("tpm-cert-info", CtapKind::CertInfo, "TPM 2.0 Library, Part 2"),
+            ("tpm-pub-area", CtapKind::PubArea, "TPM 2.0 Library, Part 2"),
+        }
+    };
+}
+
 impl EnumNames for CtapKind {
     ghost table = { ctap_kinds };
 
     ghost name_is_own = { ctap_own };
 
     fn table() -> &'static [(&'static str, CtapKind)] {
-        &[
-            ("pin-request", CtapKind::PinRequest),
-            ("pin-response", CtapKind::PinResponse),
-            ("bio-request", CtapKind::BioRequest),
-            ("bio-response", CtapKind::BioResponse),
-            ("cm-request", CtapKind::CredentialRequest),
-            ("cm-response", CtapKind::CredentialResponse),
-            ("lb-request", CtapKind::BlobsRequest),
-            ("lb-response", CtapKind::BlobsResponse),
-            ("lb-entry", CtapKind::BlobsEntry),
-            ("cfg-request", CtapKind::ConfigRequest),
-            ("cfg-min-pin-length", CtapKind::ConfigMinPinLength),
-            ("cfg-vendor", CtapKind::ConfigVendor),
-            ("cose-key", CtapKind::Key),
-            ("info-23", CtapKind::Info23),
-            ("mc-inputs", CtapKind::MakeInputs),
-            ("mc-outputs", CtapKind::MakeOutputs),
-            ("mc-unsigned", CtapKind::MakeUnsigned),
-            ("ga-inputs", CtapKind::GetInputs),
-            ("ga-outputs", CtapKind::GetOutputs),
-            ("ga-unsigned", CtapKind::GetUnsigned),
-            ("att-packed", CtapKind::PackedStatement),
-            ("att-tpm", CtapKind::TpmStatement),
-            ("att-android-key", CtapKind::AndroidKeyStatement),
-            ("att-android-safetynet", CtapKind::SafetyNetStatement),
-            ("att-fido-u2f", CtapKind::FidoU2fStatement),
-            ("att-none", CtapKind::NoneStatement),
-            ("att-apple", CtapKind::AppleStatement),
-            ("att-compound", CtapKind::CompoundStatement),
-            ("tpm-cert-info", CtapKind::CertInfo),
-            ("tpm-pub-area", CtapKind::PubArea),
-        ]
+        kinds!(names)
     }
 }
 
@@ -115,28 +125,5 @@ impl EnumNames for CtapKind {
 pub(crate) fn ctap_source(kind: CtapKind) -> &'static str
     ensures { result.now ≡ ctap_source kind }
 {
-    match kind {
-        CtapKind::PinRequest | CtapKind::PinResponse => "CTAP 2.1, section 6.5",
-        CtapKind::BioRequest | CtapKind::BioResponse => "CTAP 2.1, section 6.7",
-        CtapKind::CredentialRequest | CtapKind::CredentialResponse => "CTAP 2.1, section 6.8",
-        CtapKind::BlobsRequest | CtapKind::BlobsResponse => "CTAP 2.1, section 6.10",
-        CtapKind::BlobsEntry => "CTAP 2.1, section 6.10.3",
-        CtapKind::ConfigRequest => "CTAP 2.1, section 6.11",
-        CtapKind::ConfigMinPinLength => "CTAP 2.1, section 6.11.4",
-        CtapKind::ConfigVendor => "CTAP 2.1, section 6.11.3",
-        CtapKind::Key => "RFC 9052, section 7",
-        CtapKind::Info23 => "CTAP 2.3, section 6.4",
-        CtapKind::MakeInputs | CtapKind::MakeUnsigned => "CTAP 2.3, section 6.1",
-        CtapKind::MakeOutputs | CtapKind::GetOutputs => "WebAuthn Level 3, section 6.1",
-        CtapKind::GetInputs | CtapKind::GetUnsigned => "CTAP 2.3, section 6.2",
-        CtapKind::PackedStatement => "WebAuthn Level 3, section 8.2",
-        CtapKind::TpmStatement => "WebAuthn Level 3, section 8.3",
-        CtapKind::AndroidKeyStatement => "WebAuthn Level 3, section 8.4",
-        CtapKind::SafetyNetStatement => "WebAuthn Level 3, section 8.5",
-        CtapKind::FidoU2fStatement => "WebAuthn Level 3, section 8.6",
-        CtapKind::NoneStatement => "WebAuthn Level 3, section 8.7",
-        CtapKind::AppleStatement => "WebAuthn Level 3, section 8.8",
-        CtapKind::CompoundStatement => "WebAuthn Level 3, section 8.9",
-        CtapKind::CertInfo | CtapKind::PubArea => "TPM 2.0 Library, Part 2",
-    }
+    kinds!(source, kind)
 }

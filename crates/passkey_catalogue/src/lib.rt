@@ -15,6 +15,7 @@ mod form;
 mod key;
 mod kind;
 mod rewriting;
+mod rows;
 mod source;
 mod statement;
 mod structure;

@@ -19,18 +19,15 @@ use Rattle.passkey_inspect.specs.declared.options.Options.{Options}
 use Rattle.passkey_inspect.specs.declared.options.Output.{Output}
 use Rattle.passkey_inspect.specs.declared.options.Output.TheVariants.{Report, Json as JsonText, Diagnosis, Bytes as BytesText, Encoding}
 use Rattle.passkey_catalogue.specs.Catalogue.{definition, is_json, json_of}
-use Rattle.passkey_catalogue.specs.Rewriting.{Encodes as EncodesAs}
+use Rattle.passkey_catalogue.specs.Rewriting.{Encodes}
 use Rattle.passkey_catalogue.specs.declared.any_json_kind.AnyJsonKind.{AnyJsonKind}
 use Rattle.passkey_catalogue.specs.declared.kind.Kind.{Kind}
 
--- Decoding the input as the kind and encoding the result returns this.
-abbrev pub Encodes : Kind → List ℕ → List ℕ → Type 0
-Encodes kind input encoding = (n : ℕ) × EncodesAs (definition kind) input encoding n
-
--- The text is the encoding, in lower-case hexadecimal.
+-- The text is the encoding, in lower-case hexadecimal, of what so many of the bytes are decoded to.
 pub record ShowsEncoding (kind : Kind) (bytes text : List ℕ) : Type 0 where
   pub encoding : List ℕ
-  pub encodes : Encodes kind bytes encoding
+  pub read : ℕ
+  pub encodes : Encodes (definition kind) bytes encoding read
   pub shown : text ≡ encode_lower encoding
 
 -- The text is the leading data item in diagnostic notation, an element or a member a line.

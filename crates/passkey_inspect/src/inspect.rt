@@ -2,7 +2,6 @@
 ghost use Rattle.std.specs.Prelude.{◌≡◌, ◌++◌, ◌∷◌, [], IfOk, None, string_bytes};
 ghost use Rattle.passkey_inspect.specs.Prints.{Prints, PrintsAs, PrintsBytes, PrintsInput, PrintsSpelled, form_in, ShowsBytes, ShowsEncoding, ShowsItem, ShowsJson};
 
-use crate::encode::encode;
 use crate::examine::{Contents, Examined, examine};
 use crate::fault::InspectFault;
 use crate::frame::{Frame, frame_of, frame_text, framed_kind};
@@ -11,6 +10,7 @@ use crate::newer_members::newer_members_text;
 use crate::options::{Options, Output};
 use crate::records::print_record;
 use crate::undecoded::undecoded_text;
+use passkey_catalogue::encode;
 use passkey_cbor::{CborError, Value};
 use passkey_cbor_text::diagnose::{diagnose_bytes_indented, diagnose_indented};
 use passkey_cbor_text::dump::dump;
@@ -93,7 +93,7 @@ fn add_matches(alloc: Global, bytes: &[u8], matches: &mut Matches) -> Result<(),
 fn encoding_text(alloc: Global, kind: InspectKind, bytes: &[u8]) -> Result<String, RunFault>
     ensures { IfOk result (λ text. ShowsEncoding kind bytes.now (string_bytes text)) }
 {
-    let encoding = encode(alloc, kind, bytes)?;
+    let (encoding, _len) = encode(alloc, kind, bytes)?;
     Ok(hex::encode(alloc, encoding.as_slice())?)
 }
 
@@ -202,7 +202,7 @@ fn report_text(
     let len = contents.len;
     let mut text = heading(alloc, body)?;
     push_bytes_report(&mut text, alloc, body, kind, contents)?;
-    if let Ok(encoding) = encode(alloc, kind, body.bytes) {
+    if let Ok((encoding, _len)) = encode(alloc, kind, body.bytes) {
         if encoding.as_slice() != body.bytes.get(..len).unwrap_or(&[]) {
             text.push_str("encoded again it differs: --cbor shows it\n")?;
         }

@@ -3,7 +3,6 @@
 //! which is told on standard error.
 #![tactic(auto)]
 
-mod encode;
 mod examine;
 mod fault;
 mod frame;

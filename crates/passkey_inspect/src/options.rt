@@ -24,27 +24,23 @@ xxd and hexdump -C dump it), base64, base64url, JSON and raw bytes.
 Of JSON a report is printed, or with --json the record in a line; the others are for bytes.
 
 Without a KIND it is found, and a leading command byte or status byte 00 is taken off. A KIND that
-is named takes all of the bytes. These kinds are found:
+is named takes all of the bytes; auth is authenticator data, cbor any data item, and mc-response
+also an attestation object. These kinds are found:
 
-  registration    mc-request, mc-response (also an attestation object); JSON: creation, created
-  sign-in         ga-request, ga-response, hmac-input; JSON: request, authenticated
-  parts           auth (authenticator data), cose-key, cbor (any data item); JSON: client-data
-  authenticator   info
-  PIN             pin-request, pin-response
-  biometrics      bio-request, bio-response
-  credentials     cm-request, cm-response
-  large blobs     lb-request, lb-response, lb-entry
-  configuration   cfg-request, cfg-min-pin-length, cfg-vendor
+  bytes   cbor, auth, mc-request, mc-response, ga-request, ga-response, info, hmac-input,
+          pin-request, pin-response, bio-request, bio-response, cm-request, cm-response,
+          lb-request, lb-response, lb-entry, cfg-request, cfg-min-pin-length, cfg-vendor,
+          cose-key
+  JSON    creation, request, created, authenticated, client-data
 
 These have to be named:
 
-  CTAP 2.3        info-23
-  extensions      mc-inputs, mc-outputs, mc-unsigned, ga-inputs, ga-outputs, ga-unsigned;
-                  JSON: client-inputs, client-outputs
-  attestation     att-packed, att-tpm, att-android-key, att-android-safetynet, att-fido-u2f,
-                  att-none, att-apple, att-compound; of a TPM: tpm-cert-info, tpm-pub-area
-  JSON            mediated-creation, mediated-request, client-data-top, client-data-payment,
-                  capabilities, signal-unknown, signal-accepted, signal-details
+  bytes   info-23, mc-inputs, mc-outputs, mc-unsigned, ga-inputs, ga-outputs, ga-unsigned,
+          att-packed, att-tpm, att-android-key, att-android-safetynet, att-fido-u2f, att-none,
+          att-apple, att-compound, tpm-cert-info, tpm-pub-area
+  JSON    signal-unknown, signal-accepted, signal-details, client-inputs, client-outputs,
+          mediated-creation, mediated-request, client-data-top, client-data-payment,
+          capabilities
 
 Status: 0 done, 1 refused, 2 bad arguments, 3 out of memory, 4 a read or a write failed.
 passkey_show KIND prints a message encoded again, and nothing else (docs/PROGRAM.md).

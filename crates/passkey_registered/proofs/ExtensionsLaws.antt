@@ -1,21 +1,22 @@
 -- Records of extensions: they can be decoded again, have few levels, and their keys ascend.
 use Rattle.passkey_commands.specs.credential_management.CredProtect.{cred_protect_byte, cred_protect_of}
 use Rattle.passkey_registered.proofs.Named.{IsNamed, named_law, plain_messages}
-use Rattle.passkey_registered.specs.extensions.LargeBlobs.{blob_get_inputs, blob_get_outputs, blob_make_inputs, blob_make_outputs}
+use Rattle.passkey_registered.specs.extensions.LargeBlobs.{IsFlat, blob_get_inputs, blob_get_outputs, blob_make_inputs, blob_make_outputs}
 use Rattle.passkey_registered.specs.extensions.MakeCredentialInputs.{make_credential_inputs, normal_make_credential_inputs}
 use Rattle.passkey_registered.specs.extensions.MakeCredentialOutputs.{make_credential_outputs, normal_make_credential_outputs}
-use Rattle.passkey_registered.specs.extensions.MakeCredentialUnsigned.{make_credential_unsigned}
 use Rattle.passkey_registered.specs.extensions.Prf.{prf_inputs, prf_outputs, prf_values}
 use Rattle.passkey_registered.specs.extensions.GetAssertionInputs.{get_assertion_inputs}
 use Rattle.passkey_registered.specs.extensions.GetAssertionOutputs.{get_assertion_outputs}
-use Rattle.passkey_registered.specs.extensions.GetAssertionUnsigned.{get_assertion_unsigned}
+use Rattle.passkey_registered.specs.extensions.Unsigned.{unsigned_outputs}
 use Rattle.passkey_kinds.proofs.Lists.{map_same}
 use Rattle.passkey_kinds.proofs.Lawful.{IsLawful, IsLawfulAs, lawful}
 use Rattle.passkey_kinds.proofs.Numbered.{code_place, long_back, not_null_around, not_null_back}
 use Rattle.passkey_kinds.proofs.Steps.{IsReadBack, None, Option, anything, arith, byte_string, bytes_back, codes, false, length, list_plain, list_same, map_back, map_plain, map_values_same, no_more, optional_keeps, optional_place, plainly, puts_default, puts_value, refl, shortest_head, sized_bytes_from, suc, text_back, truth_back, word_back, ℕ, ◌≡◌, ◌▸◌, List, Some, [], ap, map, option_map}
 use Rattle.std.proofs.Common.{◌∷◌}
 use Rattle.passkey_kinds.specs.Coded.{byte_map, plain}
-use Rattle.passkey_kinds.specs.Numbered.{AreMessages}
+use Rattle.passkey_kinds.specs.Numbered.{AreMessages, table_fields}
+use Rattle.passkey_kinds.specs.Words.{PlainTable, fields_of, plain_tree, record_cost}
+use Rattle.passkey_kinds.proofs.Ordered.{IsPlain}
 
 -- ---- the extension prf
 
@@ -124,27 +125,38 @@ get_assertion_outputs_law = lawful 2 get_assertion_outputs (λ r. refl) (λ r. r
 pub get_assertion_outputs_messages : AreMessages false get_assertion_outputs (λ r. None)
 get_assertion_outputs_messages = plain_messages 2 get_assertion_outputs (omega arith) get_assertion_outputs_law
 
-pub make_credential_unsigned_law : IsLawful 2 make_credential_unsigned
-unfolding shortest_head
-make_credential_unsigned_law = lawful 2 make_credential_unsigned (λ r. refl) (λ r. refl) (λ r. refl)
-    (λ k r. search (plainly, prf_outputs_law.plain k, blob_make_outputs_law.plain (suc k)) depth 12) (λ r fits.
-    puts_default (optional_place prf_outputs_law.back refl r.prf (search)) refl ▸
-    puts_default (optional_place blob_make_outputs_law.back refl r.large_blob (search)) refl ▸
-    no_more)
+-- records with nothing but leaves
+is_flat : {P : Type 0} (t : PlainTable P) → IsLawful 0 t → record_cost (fields_of t) ≡ 4 → IsFlat t
+is_flat t law cost = record {
+  back = law.back;
+  levels = λ r. (law.plain 0 r).levels;
+  order = λ r. (law.plain 0 r).order;
+  cost = cost;
+}
 
-pub make_credential_unsigned_messages : AreMessages false make_credential_unsigned (λ r. None)
-make_credential_unsigned_messages = plain_messages 2 make_credential_unsigned (omega arith) make_credential_unsigned_law
+pub blob_make_outputs_flat : IsFlat blob_make_outputs
+blob_make_outputs_flat = is_flat blob_make_outputs blob_make_outputs_law refl
 
-pub get_assertion_unsigned_law : IsLawful 2 get_assertion_unsigned
-unfolding shortest_head
-get_assertion_unsigned_law = lawful 2 get_assertion_unsigned (λ r. refl) (λ r. refl) (λ r. refl)
-    (λ k r. search (plainly, prf_outputs_law.plain k, blob_get_outputs_law.plain (suc k)) depth 12) (λ r fits.
-    puts_default (optional_place prf_outputs_law.back refl r.prf (search)) refl ▸
-    puts_default (optional_place blob_get_outputs_law.back refl r.large_blob (search)) refl ▸
-    no_more)
+pub blob_get_outputs_flat : IsFlat blob_get_outputs
+blob_get_outputs_flat = is_flat blob_get_outputs blob_get_outputs_law refl
 
-pub get_assertion_unsigned_messages : AreMessages false get_assertion_unsigned (λ r. None)
-get_assertion_unsigned_messages = plain_messages 2 get_assertion_unsigned (omega arith) get_assertion_unsigned_law
+module _ {L : Type 0} (t : PlainTable L) (flat : IsFlat t) where
+  few_levels : (k : ℕ) (r : L) → IsPlain (suc k) (plain_tree t r)
+  few_levels k r = record { levels = omega (arith, flat.levels r); order = flat.order r }
+
+  pub unsigned_outputs_law : IsLawful 2 (unsigned_outputs t)
+  unfolding shortest_head
+  unsigned_outputs_law = lawful 2 (unsigned_outputs t) (λ r. refl) (λ r. refl) (λ r. refl)
+      (λ k r. search (plainly, prf_outputs_law.plain k, few_levels (suc k)) depth 12) (λ r fits.
+      puts_default (optional_place prf_outputs_law.back refl r.prf (search)) refl ▸
+      puts_default (optional_place flat.back refl r.large_blob (search)) refl ▸
+      no_more)
+
+  pub unsigned_outputs_messages : AreMessages false (unsigned_outputs t) (λ r. None)
+  unsigned_outputs_messages = plain_messages 2 (unsigned_outputs t) (omega arith) unsigned_outputs_law
+
+  pub unsigned_outputs_cost : suc (record_cost (table_fields false (unsigned_outputs t))) ≡ 7
+  unsigned_outputs_cost = rw flat.cost refl
 
 -- ---- inputs, which keep the salts of hmac-secret
 

@@ -2,9 +2,8 @@ pub mod Prf
 pub mod LargeBlobs
 pub mod MakeCredentialInputs
 pub mod MakeCredentialOutputs
-pub mod MakeCredentialUnsigned
+pub mod Unsigned
 pub mod GetAssertionInputs
 pub mod GetAssertionOutputs
-pub mod GetAssertionUnsigned
 pub mod Lent
 pub mod Others

@@ -12,10 +12,12 @@ use passkey_types::ctap2::{
 };
 use std::alloc::Global;
 
-/// A message with parts that can be copied.
+/// A message, perhaps with parts that can be copied.
 pub trait Copied {
     /// Replaces each part that can be copied by a copy.
-    fn replace_parts(&mut self, alloc: Global, tries: &mut Tries) -> Result<(), OutOfMemory>;
+    fn replace_parts(&mut self, _alloc: Global, _tries: &mut Tries) -> Result<(), OutOfMemory> {
+        Ok(())
+    }
 }
 
 impl Copied for HmacGetSecretInput {

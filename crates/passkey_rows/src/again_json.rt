@@ -1,6 +1,6 @@
 //! JSON records: decoded, and encoded with copies of their parts, in both forms of bytes.
 use crate::tries::Tries;
-use passkey_run::{JsonKind, RunFault};
+use passkey_run::{JsonKind, RunFault, of_json_kind};
 use passkey_types::OutOfMemory;
 use passkey_types::json::{Error, Value};
 use passkey_types::webauthn::{
@@ -173,20 +173,17 @@ pub fn client_data_copied<E: ClientDataExtra>(
     alloc: Global,
     text: &str,
 ) -> Result<String, RunFault> {
-    let value = parsed(alloc, text)?;
-    let data = CollectedClientData::<E>::from_json(alloc, &value);
-    drop(value);
-    let data = data?;
+    let data = client_data_of::<E>(alloc, text)?;
     let text = copied_text(alloc, &data);
     drop(data);
     text
 }
 
 /// Returns the text, and tries again if memory ran out.
-fn client_data_text_again(
+fn client_data_text_again<E: ClientDataExtra>(
     alloc: Global,
     tries: &mut Tries,
-    data: &CollectedClientData,
+    data: &CollectedClientData<E>,
 ) -> Result<String, JsonFault> {
     match client_data_text(alloc, data) {
         Err(JsonFault::OutOfMemory) => {
@@ -197,28 +194,56 @@ fn client_data_text_again(
     }
 }
 
-fn client_data_of(alloc: Global, text: &str) -> Result<CollectedClientData, RunFault> {
+fn client_data_of<E: ClientDataExtra>(
+    alloc: Global,
+    text: &str,
+) -> Result<CollectedClientData<E>, RunFault> {
     let value = parsed(alloc, text)?;
-    let data = CollectedClientData::from_json(alloc, &value);
+    let data = CollectedClientData::<E>::from_json(alloc, &value);
     drop(value);
     Ok(data?)
 }
 
 /// Replaces the client data by a copy, and returns their text.
-fn copied_client_data(
+fn copied_client_data<E: ClientDataExtra>(
     alloc: Global,
     tries: &mut Tries,
-    data: &mut CollectedClientData,
+    data: &mut CollectedClientData<E>,
 ) -> Result<String, JsonFault> {
     tries.replace(alloc, data)?;
     client_data_text_again(alloc, tries, data)
 }
 
-fn client_data_again(alloc: Global, tries: &mut Tries, text: &str) -> Result<String, RunFault> {
-    let mut data = client_data_of(alloc, text)?;
+fn client_data_again<E: ClientDataExtra>(
+    alloc: Global,
+    tries: &mut Tries,
+    text: &str,
+) -> Result<String, RunFault> {
+    let mut data = client_data_of::<E>(alloc, text)?;
     let text = copied_client_data(alloc, tries, &mut data);
     drop(data);
     Ok(text?)
+}
+
+/// A JSON text of which the parts are replaced by copies.
+#[derive(Drop)]
+struct InParts<'a, 'b> {
+    alloc: Global,
+    tries: &'a mut Tries,
+    text: &'b str,
+}
+
+/// The calls of the dispatch.
+impl<'a, 'b> InParts<'a, 'b> {
+    fn visit_record<R: JsonRecord + ToJson + CopiedRecord>(self) -> Result<String, RunFault> {
+        let (alloc, text) = (self.alloc, self.text);
+        record_again::<R>(alloc, self.tries, text)
+    }
+
+    fn visit_client_data<E: ClientDataExtra>(self) -> Result<String, RunFault> {
+        let (alloc, text) = (self.alloc, self.text);
+        client_data_again::<E>(alloc, self.tries, text)
+    }
 }
 
 /// Decodes the text as the kind, replaces parts by copies, and encodes the result with bytes as
@@ -230,13 +255,6 @@ pub fn json_again(
     kind: JsonKind,
     text: &str,
 ) -> Result<String, RunFault> {
-    match kind {
-        JsonKind::Creation => record_again::<CredentialCreationOptions>(alloc, tries, text),
-        JsonKind::Request => record_again::<CredentialRequestOptions>(alloc, tries, text),
-        JsonKind::Created => record_again::<CreatedPublicKeyCredential>(alloc, tries, text),
-        JsonKind::Authenticated => {
-            record_again::<AuthenticatedPublicKeyCredential>(alloc, tries, text)
-        }
-        JsonKind::ClientData => client_data_again(alloc, tries, text),
-    }
+    let parts = InParts { alloc, tries, text };
+    of_json_kind!(kind, parts)
 }

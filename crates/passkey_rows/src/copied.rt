@@ -82,17 +82,9 @@ impl Copied for config::Request {
     }
 }
 
-impl Copied for config::MinPinLengthParameters {
-    fn replace_parts(&mut self, _alloc: Global, _tries: &mut Tries) -> Result<(), OutOfMemory> {
-        Ok(())
-    }
-}
+impl Copied for config::MinPinLengthParameters {}
 
-impl Copied for config::VendorParameters {
-    fn replace_parts(&mut self, _alloc: Global, _tries: &mut Tries) -> Result<(), OutOfMemory> {
-        Ok(())
-    }
-}
+impl Copied for config::VendorParameters {}
 
 impl Copied for registered::get_info::Response {
     fn replace_parts(&mut self, alloc: Global, tries: &mut Tries) -> Result<(), OutOfMemory> {
@@ -137,8 +129,4 @@ impl Copied for used::SignedExtensionOutputs {
     }
 }
 
-impl Copied for used::UnsignedExtensionOutputs {
-    fn replace_parts(&mut self, _alloc: Global, _tries: &mut Tries) -> Result<(), OutOfMemory> {
-        Ok(())
-    }
-}
+impl Copied for used::UnsignedExtensionOutputs {}

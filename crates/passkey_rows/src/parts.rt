@@ -6,8 +6,8 @@ use passkey_types::ctap2::extensions::{AuthenticatorPrfInputs, HmacGetSecretInpu
 use passkey_types::ctap2::{AttestedCredentialData, make_credential};
 use passkey_types::webauthn::{
     AuthenticationExtensionsPrfInputs, AuthenticationExtensionsPrfOutputs,
-    AuthenticatorAttestationResponse, CollectedClientData, PublicKeyCredentialDescriptor,
-    PublicKeyCredentialRpEntity, PublicKeyCredentialUserEntity,
+    AuthenticatorAttestationResponse, ClientDataExtra, CollectedClientData,
+    PublicKeyCredentialDescriptor, PublicKeyCredentialRpEntity, PublicKeyCredentialUserEntity,
 };
 use passkey_types::{Bytes, List, Map, OutOfMemory, Passkey, Text};
 use std::alloc::Global;
@@ -96,8 +96,8 @@ impl Part for AuthenticatorAttestationResponse {
     }
 }
 
-impl Part for CollectedClientData {
-    fn copy(&self, alloc: Global) -> Result<CollectedClientData, OutOfMemory> {
+impl<E: ClientDataExtra> Part for CollectedClientData<E> {
+    fn copy(&self, alloc: Global) -> Result<CollectedClientData<E>, OutOfMemory> {
         self.try_clone(alloc)
     }
 }

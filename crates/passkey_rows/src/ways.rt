@@ -6,15 +6,14 @@ use crate::decoding::{Source, decode_as};
 use crate::heads::{Counts, heads};
 use crate::hexadecimal::{decode, encode};
 use crate::tries::Tries;
-use passkey_catalogue::{CtapKind, Kind};
-use passkey_run::{BytesKind, RunFault};
+use passkey_catalogue::{CtapKind, Form, Kind, of_ctap_kind};
+use passkey_run::{BytesKind, RunFault, of_bytes_kind};
+use passkey_types::attestation::AttestationFormat;
 use passkey_types::ctap2::extensions::HmacGetSecretInput;
-use passkey_types::ctap2::registered::extensions::{
-    get_assertion as used, make_credential as made,
-};
+use passkey_types::ctap2::registered::{self, extensions};
 use passkey_types::ctap2::{
     Message, ToCbor, bio_enrollment, client_pin, config, credential_management, get_assertion,
-    get_info, large_blobs, make_credential, registered,
+    get_info, large_blobs, make_credential,
 };
 use std::alloc::Global;
 
@@ -33,80 +32,62 @@ pub enum Way {
     Body,
 }
 
-/// Decodes a message whose parts can be copied, and encodes it with copies of them, or by way of data
-/// items.
-fn in_parts<M: Message + Copied + ToCbor>(
+/// Bytes of which the parts are replaced by copies, or which go by way of data items.
+#[derive(Drop)]
+struct InParts<'a, 'b> {
     alloc: Global,
-    tries: &mut Tries,
+    tries: &'a mut Tries,
     is_by_item: bool,
-    bytes: &[u8],
-) -> Result<Vec<u8>, RunFault> {
-    if is_by_item {
-        by_item::<M>(alloc, tries, bytes)
-    } else {
-        message_again::<M>(alloc, tries, bytes)
+    bytes: &'b [u8],
+}
+
+/// The calls of the dispatches.
+impl<'a, 'b> InParts<'a, 'b> {
+    fn visit_item(self) -> Result<Vec<u8>, RunFault> {
+        let (alloc, bytes) = (self.alloc, self.bytes);
+        if self.is_by_item {
+            return Err(RunFault::UnknownKind);
+        }
+        item_again(alloc, self.tries, bytes)
+    }
+
+    fn visit_data(self) -> Result<Vec<u8>, RunFault> {
+        let (alloc, bytes) = (self.alloc, self.bytes);
+        if self.is_by_item {
+            return Err(RunFault::UnknownKind);
+        }
+        auth_again(alloc, self.tries, bytes)
+    }
+
+    fn visit_message<M: Message + Copied + ToCbor>(self) -> Result<Vec<u8>, RunFault> {
+        let (alloc, bytes) = (self.alloc, self.bytes);
+        if self.is_by_item {
+            by_item::<M>(alloc, self.tries, bytes)
+        } else {
+            message_again::<M>(alloc, self.tries, bytes)
+        }
+    }
+
+    fn visit_info(self) -> Result<Vec<u8>, RunFault> {
+        let (alloc, bytes) = (self.alloc, self.bytes);
+        if self.is_by_item {
+            info_by_items(alloc, self.tries, bytes)
+        } else {
+            message_again::<get_info::Response>(alloc, self.tries, bytes)
+        }
+    }
+
+    fn visit_other(self, _what: Form) -> Result<Vec<u8>, RunFault> {
+        Err(RunFault::UnknownKind)
     }
 }
 
-fn shown_in_parts(
-    alloc: Global,
-    tries: &mut Tries,
-    kind: BytesKind,
-    by: bool,
-    bytes: &[u8],
-) -> Result<Vec<u8>, RunFault> {
+/// Returns what bytes of this kind are encoded as.
+fn in_parts(kind: Kind, parts: InParts<'_, '_>) -> Result<Vec<u8>, RunFault> {
     match kind {
-        BytesKind::Cbor | BytesKind::Auth if by => Err(RunFault::UnknownKind),
-        BytesKind::Cbor => item_again(alloc, tries, bytes),
-        BytesKind::Auth => auth_again(alloc, tries, bytes),
-        BytesKind::MakeRequest => in_parts::<make_credential::Request>(alloc, tries, by, bytes),
-        BytesKind::MakeResponse => in_parts::<make_credential::Response>(alloc, tries, by, bytes),
-        BytesKind::GetRequest => in_parts::<get_assertion::Request>(alloc, tries, by, bytes),
-        BytesKind::GetResponse => in_parts::<get_assertion::Response>(alloc, tries, by, bytes),
-        BytesKind::Info if by => info_by_items(alloc, tries, bytes),
-        BytesKind::Info => message_again::<get_info::Response>(alloc, tries, bytes),
-        BytesKind::HmacInput => in_parts::<HmacGetSecretInput>(alloc, tries, by, bytes),
-    }
-}
-
-fn other_in_parts(
-    alloc: Global,
-    tries: &mut Tries,
-    kind: CtapKind,
-    by: bool,
-    bytes: &[u8],
-) -> Result<Vec<u8>, RunFault> {
-    match kind {
-        CtapKind::PinRequest => in_parts::<client_pin::Request>(alloc, tries, by, bytes),
-        CtapKind::PinResponse => in_parts::<client_pin::Response>(alloc, tries, by, bytes),
-        CtapKind::BioRequest => in_parts::<bio_enrollment::Request>(alloc, tries, by, bytes),
-        CtapKind::BioResponse => in_parts::<bio_enrollment::Response>(alloc, tries, by, bytes),
-        CtapKind::CredentialRequest => in_parts::<credential_management::Request>(
-            alloc, tries, by, bytes,
-        ),
-        CtapKind::CredentialResponse => in_parts::<credential_management::Response>(
-            alloc, tries, by, bytes,
-        ),
-        CtapKind::BlobsRequest => in_parts::<large_blobs::Request>(alloc, tries, by, bytes),
-        CtapKind::BlobsResponse => in_parts::<large_blobs::Response>(alloc, tries, by, bytes),
-        CtapKind::BlobsEntry => in_parts::<large_blobs::LargeBlob>(alloc, tries, by, bytes),
-        CtapKind::ConfigRequest => in_parts::<config::Request>(alloc, tries, by, bytes),
-        CtapKind::ConfigMinPinLength => in_parts::<config::MinPinLengthParameters>(
-            alloc, tries, by, bytes,
-        ),
-        CtapKind::ConfigVendor => in_parts::<config::VendorParameters>(alloc, tries, by, bytes),
-        CtapKind::Info23 => in_parts::<registered::get_info::Response>(alloc, tries, by, bytes),
-        CtapKind::MakeInputs => in_parts::<made::ExtensionInputs>(alloc, tries, by, bytes),
-        CtapKind::MakeOutputs => in_parts::<made::SignedExtensionOutputs>(alloc, tries, by, bytes),
-        CtapKind::MakeUnsigned => in_parts::<made::UnsignedExtensionOutputs>(
-            alloc, tries, by, bytes,
-        ),
-        CtapKind::GetInputs => in_parts::<used::ExtensionInputs>(alloc, tries, by, bytes),
-        CtapKind::GetOutputs => in_parts::<used::SignedExtensionOutputs>(alloc, tries, by, bytes),
-        CtapKind::GetUnsigned => in_parts::<used::UnsignedExtensionOutputs>(
-            alloc, tries, by, bytes,
-        ),
-        _ => Err(RunFault::UnknownKind),
+        Kind::Bytes(kind) => of_bytes_kind!(kind, parts, parts.visit_info()),
+        Kind::Ctap(kind) => of_ctap_kind!(kind, parts),
+        Kind::Json(_) | Kind::Client(_) => Err(RunFault::UnknownKind),
     }
 }
 
@@ -118,13 +99,9 @@ fn once(
     kind: Kind,
     bytes: &[u8],
 ) -> Result<Vec<u8>, RunFault> {
-    match decode_as(alloc, tries, kind, source, bytes) {
-        Some(decoded) => {
-            let (encoding, _len) = decoded.outcome?;
-            Ok(encoding)
-        }
-        None => Err(RunFault::UnknownKind),
-    }
+    let decoded = decode_as(alloc, tries, kind, source, bytes).ok_or(RunFault::UnknownKind)?;
+    let (encoding, _len) = decoded.outcome?;
+    Ok(encoding)
 }
 
 /// Returns the output of a message's row.
@@ -135,19 +112,28 @@ pub fn message_row(
     kind: Kind,
     input: &str,
 ) -> Result<String, RunFault> {
-    let by = match (way, kind) {
+    let is_by_item = match (way, kind) {
         (Way::Counted(counts), kind) => return heads(alloc, tries, counts, kind, input),
         (Way::Again, Kind::Json(kind)) => return json_again(alloc, tries, kind, input),
         (Way::ByItem, _) => true,
         _ => false,
     };
     let bytes = decode(alloc, input)?;
-    let encoding = match (way, kind) {
-        (Way::Once, kind) => once(alloc, tries, Source::Bytes, kind, &bytes)?,
-        (Way::Body, kind) => once(alloc, tries, Source::Body, kind, &bytes)?,
-        (_, Kind::Bytes(kind)) => shown_in_parts(alloc, tries, kind, by, &bytes)?,
-        (_, Kind::Ctap(kind)) => other_in_parts(alloc, tries, kind, by, &bytes)?,
-        _ => return Err(RunFault::UnknownKind),
+    let encoding = match way {
+        Way::Once => once(alloc, tries, Source::Bytes, kind, &bytes)?,
+        Way::Body => once(alloc, tries, Source::Body, kind, &bytes)?,
+        _ => {
+            let bytes = bytes.as_slice();
+            in_parts(
+                kind,
+                InParts {
+                    alloc,
+                    tries,
+                    is_by_item,
+                    bytes,
+                },
+            )?
+        }
     };
     encode(alloc, &encoding)
 }

@@ -11,7 +11,6 @@ use Rattle.passkey_run.specs.declared.kind.BytesKind.TheVariants as kind
 -- a kind refuses bytes with its own faults alone
 pub hex_refused : (k : BytesKind) (input bytes : List ℕ) (fault : RunFault) → decode_of (trimmed input) ≡ Ok bytes
     → IsRefusal k bytes fault → HasNoHex k input fault
-unfolding IsRefusal
 hex_refused k input bytes (Refused refusal) decoded h = record { bytes = bytes; decoded = decoded; refused = h }
 hex_refused k input bytes (MessageRefused fault) decoded h = record { bytes = bytes; decoded = decoded; refused = h }
 hex_refused k input bytes OutOfMemory decoded h = tt

@@ -13,11 +13,11 @@ use Rattle.passkey_run.specs.declared.fault.RunFault.{RunFault}
 use Rattle.passkey_run.specs.declared.fault.RunFault.TheVariants.{Refused, MessageRefused, BadHex, UnknownKind, OutOfMemory}
 
 -- what decoding these bytes as a kind and encoding the result returns
-unfoldable pub Rewrites : BytesKind → List ℕ → List ℕ → Type 0
+abbrev pub Rewrites : BytesKind → List ℕ → List ℕ → Type 0
 Rewrites kind = RewritesAs {O = Unit {0}} (λ o bytes encoding. ⊥) (bytes_definition kind)
 
 -- why these bytes aren't decoded and encoded as a kind; memory may run out for any bytes
-unfoldable pub IsRefusal : BytesKind → List ℕ → RunFault → Type 0
+abbrev pub IsRefusal : BytesKind → List ℕ → RunFault → Type 0
 IsRefusal kind = IsRefusalAs {O = Unit {0}} (λ o bytes fault. fault ≡ UnknownKind) (bytes_definition kind)
 
 -- The output for an input in hexadecimal: the kind's encoding, in lower-case hexadecimal.

@@ -25,7 +25,6 @@ pub use input::rewrite;
 pub use json::{JsonRewriting, object_from, parse_json, rewrite_json, rewrite_record};
 pub use json_visitor::JsonVisitor;
 pub use kind::{BytesKind, JsonKind, Kind};
-pub use rewrite_bytes::rewrite_raw;
 pub use rewriting::{
     rewrite_data, rewrite_front_item, rewrite_front_message, rewrite_item, rewrite_message,
 };

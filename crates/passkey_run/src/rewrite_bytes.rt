@@ -1,6 +1,6 @@
 //! Bytes in hexadecimal, decoded as a kind and encoded again.
 ghost use Rattle.std.specs.Prelude.{◌≡◌, IfOk, IfErr, string_bytes};
-ghost use Rattle.passkey_run.specs.Rewrite.{HasNoHex, IsRefusal, Rewrites, RewritesHex};
+ghost use Rattle.passkey_run.specs.Rewrite.{HasNoHex, RewritesHex};
 ghost use Rattle.passkey_run.specs.Rewriting.{IsRefusalAs, RewritesAs};
 ghost use Rattle.passkey_run.specs.declared.fault.RunFault.TheVariants.{UnknownKind};
 
@@ -44,26 +44,18 @@ impl<'a> Visitor for Rewriting<'a> {
     }
 }
 
-/// Decodes the bytes as the kind and encodes the result. Bytes after it are ignored. If the kind
-/// rejects the bytes, returns `MessageRefused` for a message and else `Refused`. Returns
-/// `OutOfMemory` if an allocation fails.
-pub fn rewrite_raw(alloc: Global, kind: BytesKind, bytes: &[u8]) -> Result<Vec<u8>, RunFault>
-    ensures ok { IfOk result (λ encoding. Rewrites kind bytes.now encoding.items) }
-    ensures err { IfErr result (IsRefusal kind bytes.now) }
-{
-    visit_bytes(kind, Rewriting { alloc, bytes })
-}
-
 /// Decodes the bytes as the kind and encodes the result, in lower-case hexadecimal. The input is
 /// hexadecimal in either case, with tabs, line feeds, carriage returns and spaces allowed at its
-/// ends. Returns `BadHex` if the input isn't hexadecimal. If the kind rejects the bytes, returns
-/// `MessageRefused` for a message and else `Refused`. Returns `OutOfMemory` if an allocation fails.
+/// ends. Trailing bytes are ignored. Returns `BadHex` if the input isn't hexadecimal. If the kind
+/// rejects the bytes, returns `MessageRefused` for a message and else `Refused`. Returns
+/// `OutOfMemory` if an allocation fails.
 #[tactic(auto, using(crate::proofs::Refusing::hex_refused))]
 pub fn rewrite_hex(alloc: Global, kind: BytesKind, input: &[u8]) -> Result<String, RunFault>
     ensures ok { IfOk result (λ text. RewritesHex kind input.now (string_bytes text)) }
     ensures err { IfErr result (HasNoHex kind input.now) }
 {
     let bytes = decode_hex(alloc, input)?;
-    let encoding = rewrite_raw(alloc, kind, bytes.as_slice())?;
+    let bytes = bytes.as_slice();
+    let encoding = visit_bytes(kind, Rewriting { alloc, bytes })?;
     Ok(hex::encode(alloc, encoding.as_slice())?)
 }

@@ -1,12 +1,20 @@
 -- Inputs and outputs of the extension largeBlob, as platforms send them to authenticators (WebAuthn Level 3, section 10.1.5).
-use Rattle.std.specs.Prelude.{[], ◌∷◌, None, codes}
+use Rattle.std.specs.Prelude.{◌≡◌, ◌≤◌, [], ◌∷◌, None, codes}
 use Rattle.passkey_registered.specs.declared.extensions.large_blob.LargeBlobMakeInputs.{LargeBlobMakeInputs}
 use Rattle.passkey_registered.specs.declared.extensions.large_blob.LargeBlobGetInputs.{LargeBlobGetInputs}
 use Rattle.passkey_registered.specs.declared.extensions.large_blob.LargeBlobMakeOutputs.{LargeBlobMakeOutputs}
 use Rattle.passkey_registered.specs.declared.extensions.large_blob.LargeBlobGetOutputs.{LargeBlobGetOutputs}
 use Rattle.passkey_kinds.specs.Coded.{bytes, text, truth}
 use Rattle.passkey_kinds.specs.Numbered.{long}
-use Rattle.passkey_kinds.specs.Words.{PlainTable, optional_as}
+use Rattle.passkey_kinds.specs.Words.{EachFits, IsReadBack, PlainTable, depth, fields_of, optional_as, plain_kind, plain_tree, record_cost}
+use Rattle.passkey_cbor.specs.Canonical.{IsOrdered}
+
+-- Records of this table decode to themselves, and nothing nests in them.
+pub record IsFlat {P : Type 0} (t : PlainTable P) : Type 0 where
+  pub back : IsReadBack (plain_kind t) (plain_tree t) (EachFits t.members) (λ r. r)
+  pub levels : (r : P) → depth (plain_tree t r) ≤ 1
+  pub order : (r : P) → IsOrdered (plain_tree t r)
+  pub cost : record_cost (fields_of t) ≡ 4
 
 abbrev pub blob_make_inputs : PlainTable LargeBlobMakeInputs
 blob_make_inputs = record {

@@ -1,5 +1,5 @@
 //! Inputs and outputs of the extension largeBlob.
-ghost use Rattle.passkey_registered.specs.extensions.LargeBlobs.{blob_get_inputs, blob_get_outputs, blob_make_inputs, blob_make_outputs};
+ghost use Rattle.passkey_registered.specs.extensions.LargeBlobs.{IsFlat, blob_get_inputs, blob_get_outputs, blob_make_inputs, blob_make_outputs};
 
 use passkey_bytes::{Bytes, Text};
 use passkey_kinds::{OutOfMemory, PlainRecord, Refusal, Row, Sink, Source, set};
@@ -87,6 +87,13 @@ impl PlainRecord for LargeBlobGetInputs {
     fn lawful() {}
 }
 
+/// Outputs of the extension largeBlob, of either command.
+pub trait LargeBlobOutputs: PlainRecord {
+    /// They decode to themselves, and nothing nests in them. Does nothing.
+    fn is_flat()
+        ensures { IsFlat Self.table };
+}
+
 /// Outputs of the extension largeBlob at a registration (WebAuthn Level 3, section 10.1.5). `None` means
 /// that the member is absent; null also decodes to `None`.
 #[derive(Debug, Default, Drop, PartialEq, Eq)]
@@ -120,6 +127,11 @@ impl PlainRecord for LargeBlobMakeOutputs {
 
     #[tactic(auto, using(crate::proofs::ExtensionsLaws::blob_make_outputs_law))]
     fn lawful() {}
+}
+
+impl LargeBlobOutputs for LargeBlobMakeOutputs {
+    #[tactic(auto, using(crate::proofs::ExtensionsLaws::blob_make_outputs_flat))]
+    fn is_flat() {}
 }
 
 /// Outputs of the extension largeBlob at an assertion (WebAuthn Level 3, section 10.1.5). `None` means
@@ -167,4 +179,9 @@ impl PlainRecord for LargeBlobGetOutputs {
 
     #[tactic(auto, using(crate::proofs::ExtensionsLaws::blob_get_outputs_law))]
     fn lawful() {}
+}
+
+impl LargeBlobOutputs for LargeBlobGetOutputs {
+    #[tactic(auto, using(crate::proofs::ExtensionsLaws::blob_get_outputs_flat))]
+    fn is_flat() {}
 }

@@ -2,8 +2,12 @@
 
 mod extension_inputs;
 mod signed_outputs;
-mod unsigned_outputs;
 
 pub use extension_inputs::ExtensionInputs;
 pub use signed_outputs::SignedExtensionOutputs;
-pub use unsigned_outputs::UnsignedExtensionOutputs;
+
+/// Extension outputs of an authenticatorMakeCredential response that are outside its authenticator data:
+/// member 0x06 (CTAP 2.3, section 6.1).
+pub type UnsignedExtensionOutputs = crate::extensions::UnsignedExtensionOutputs<
+    crate::extensions::LargeBlobMakeOutputs,
+>;
