@@ -96,6 +96,13 @@ def npm(to, version, module):
     return tar(to / f"puffgrit-npm-{version}.tgz", "package", {**files, **licenses()})
 
 
+def inspector(to, version, text):
+    """The inspector page, which is one file."""
+    made = to / f"puffgrit-inspector-{version}.html"
+    made.write_text(text, encoding="utf-8")
+    return made
+
+
 def python_source(to, project):
     """The Python package without the library: it is installed with the one that PUFFGRIT_LIBRARY names, or over the system's."""
     files = folder(BINDINGS / "python", [".py", ".toml", ".md", ".typed"])

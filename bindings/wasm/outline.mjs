@@ -1,0 +1,171 @@
+// A tree as lines that open and close, by the pointer and by the keyboard (WAI-ARIA, "Tree View Pattern"). What is inside a line is made
+// when it opens, so many lines at a time.
+import { element } from "./dump.mjs";
+
+const AT_ONCE = 100, AT_FIRST = 400, REACHED = 2000;
+
+/** A line, with those inside that were made. */
+class Line {
+  constructor(outline, node, above) {
+    Object.assign(this, { outline, node, above, level: above ? above.level + 1 : 1, left: null, inside: [], more: null });
+    this.element = element("div", outline.left.has(node.json) ? "line left" : "line");
+    this.element.style.setProperty("--level", Math.min(this.level - 1, 12));
+    const attributes = { role: "treeitem", "aria-level": this.level, tabindex: -1, ...(node.parts ? { "aria-expanded": false } : {}) };
+    for (const [name, it] of Object.entries(attributes)) this.element.setAttribute(name, it);
+    const place = node.from === null ? "" : node.from === node.end ? `${node.from}` : `${node.from}\u2013${node.end - 1}`;
+    this.element.append(element("bdi", "label", node.label), element("bdi", "text", node.text), element("span", "place", place));
+    outline.lines.set(this.element, this);
+  }
+
+  get isOpen() {
+    return this.left !== null;
+  }
+
+  /** The last element that is shown of this line and of what is inside. */
+  get lastElement() {
+    return this.more ?? this.inside.at(-1)?.lastElement ?? this.element;
+  }
+
+  open() {
+    if (!this.node.parts || this.isOpen) return;
+    this.left = this.node.parts()[Symbol.iterator]();
+    this.element.setAttribute("aria-expanded", true);
+    this.addMore(AT_ONCE);
+  }
+
+  /** Makes so many more of the lines inside. */
+  addMore(count) {
+    const wasFocused = this.more !== null && this.more === document.activeElement;
+    this.more?.remove();
+    this.more = null;
+    const first = this.inside.length;
+    let isDone = false, last = this.lastElement;
+    for (let k = 0; k < count && !isDone; k++) {
+      const { value, done } = this.left.next();
+      isDone = done;
+      if (done) break;
+      const line = new Line(this.outline, value, this);
+      this.inside.push(line);
+      last.after(line.element);
+      last = line.element;
+    }
+    if (this.inside.length < this.node.count && !isDone) this.addButton(last);
+    if (wasFocused) this.outline.focus(this.inside[first]?.element ?? this.element);
+  }
+
+  addButton(last) {
+    this.more = element("div", "line more", `${Math.min(AT_ONCE, this.node.count - this.inside.length)} more of ${this.node.count}`);
+    this.more.style.setProperty("--level", Math.min(this.level, 12));
+    for (const [name, it] of Object.entries({ role: "treeitem", "aria-level": this.level + 1, tabindex: -1 })) this.more.setAttribute(name, it);
+    this.outline.lines.set(this.more, { more: true, above: this });
+    last.after(this.more);
+  }
+
+  close() {
+    for (const it of this.inside) {
+      it.close();
+      it.element.remove();
+    }
+    this.more?.remove();
+    Object.assign(this, { left: null, inside: [], more: null });
+    if (this.node.parts) this.element.setAttribute("aria-expanded", false);
+  }
+}
+
+export class Outline {
+  /** Shows a tree in this element; `chosen` is called with the node of a line that has the pointer or the focus, and whether it is the
+   * focus, or with null. `left` has the JSON of what a message leaves out. */
+  constructor(root, node, left, chosen) {
+    Object.assign(this, { root, chosen, left: new Set(left), lines: new WeakMap() });
+    root.replaceChildren();
+    this.top = new Line(this, node, null);
+    root.append(this.top.element);
+    this.openFirst();
+    this.top.element.tabIndex = 0;
+  }
+
+  /** Opens lines, the outer ones first, as long as few are shown. */
+  openFirst() {
+    let count = 1;
+    for (const waiting = [this.top]; waiting.length > 0; ) {
+      const line = waiting.shift(), added = Math.min(line.node.count, AT_ONCE);
+      if (count + added > AT_FIRST) continue;
+      line.open();
+      count += added;
+      waiting.push(...line.inside);
+    }
+  }
+
+  /** Opens the lines on a way, and returns the last one; `isWay` says whether a node is on it, by the node and by the number of lines
+   * before, the outermost aside. */
+  reach(isWay) {
+    for (let line = this.top, level = 0; ; level++) {
+      line.open();
+      const isNext = (it) => isWay(it.node, level);
+      while (!line.inside.some(isNext) && line.more && line.inside.length < REACHED) line.addMore(AT_ONCE);
+      const inner = line.inside.find(isNext);
+      if (!inner) return line;
+      line = inner;
+    }
+  }
+
+  focus(line) {
+    this.root.querySelector('[tabindex="0"]')?.setAttribute("tabindex", -1);
+    line.tabIndex = 0;
+    line.focus();
+  }
+
+  /** Opens or closes a line, or makes more lines. */
+  toggle(line) {
+    if (line.more === true) line.above.addMore(AT_ONCE);
+    else if (line.isOpen) line.close();
+    else line.open();
+  }
+
+  /** Does what a key does; returns whether it does anything. */
+  press(key) {
+    const at = document.activeElement, line = this.lines.get(at);
+    if (!line) return false;
+    const moves = { ArrowDown: at.nextElementSibling, ArrowUp: at.previousElementSibling, Home: this.top.element, End: this.root.lastElementChild };
+    if (key in moves) {
+      if (moves[key]) this.focus(moves[key]);
+    } else if (key === "Enter" || key === " ") {
+      this.toggle(line);
+    } else if (key === "ArrowRight" && line.node?.parts) {
+      if (line.isOpen && line.inside.length) this.focus(line.inside[0].element);
+      line.open();
+    } else if (key === "ArrowLeft") {
+      if (line.isOpen) line.close();
+      else if (line.above) this.focus(line.above.element);
+    } else {
+      return false;
+    }
+    return true;
+  }
+
+  /** The line of an event. */
+  lineOf(event) {
+    const found = event.target.closest('[role="treeitem"]');
+    return found ? [found, this.lines.get(found)] : [];
+  }
+}
+
+/** Hears what is done in this element to the outline that `current` gives, if there is one. */
+export function hearOutline(root, current) {
+  const choose = (event, isFocus) => {
+    const [, line] = current()?.lineOf(event) ?? [];
+    current()?.chosen(line?.node ?? null, isFocus);
+  };
+  root.addEventListener("mouseover", (event) => choose(event, false));
+  root.addEventListener("mouseleave", () => current()?.chosen(null, false));
+  root.addEventListener("focusin", (event) => choose(event, true));
+  root.addEventListener("click", (event) => {
+    const [found, line] = current()?.lineOf(event) ?? [];
+    if (!found || !getSelection().isCollapsed) return;
+    current().focus(found);
+    current().toggle(line);
+  });
+  root.addEventListener("keydown", (event) => {
+    if (!event.altKey && !event.ctrlKey && !event.metaKey && current()?.press(event.key)) event.preventDefault();
+  });
+}
