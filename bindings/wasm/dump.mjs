@@ -52,7 +52,8 @@ export class Dump {
   fill(number) {
     const line = this.lines.get(number), first = number * WIDTH, end = Math.min(first + WIDTH, this.bytes.length);
     line.replaceChildren(element("span", "offset", first.toString(16).padStart(4, "0")));
-    const classAt = (k) => [["refused", this.refused], ["lit", this.lit]].filter(([, it]) => it && it.from <= k && k < it.end).map(([name]) => name).join(" ");
+    const isIn = (range, k) => range !== null && range.from <= k && k < range.end;
+    const classAt = (k) => ["refused", "lit"].filter((name) => isIn(this[name], k)).join(" ");
     for (let k = first; k < end; ) {
       const name = classAt(k);
       let after = k + 1;

@@ -80,9 +80,12 @@ function toldKind(json) {
   return options ? (options.member("rp") ? "creation" : "request") : null;
 }
 
-// ---- what is told beside the members
+// ---- what is known beside the members
 
-const textOf = (json) => json.token ?? (json.elements ? `[${json.elements.map(textOf)}]` : `{${json.members.map(([name, it]) => name + textOf(it))}}`);
+/** A part as text, which is the same for the same parts. */
+function textOf({ token, elements, members }) {
+  return token ?? (elements ? `[${elements.map(textOf)}]` : `{${members.map(([name, it]) => `${name}:${textOf(it)}`)}}`);
+}
 
 /** Whether an element may be the one that the encoding has in its place: they are the same, or have a member that is the same. */
 function isLike(json, kept) {
@@ -93,17 +96,23 @@ function isLike(json, kept) {
 /** Yields what of a message isn't in its encoding, by its path, and the part. */
 function* leftOut(json, kept, path = "") {
   if (json.members && kept.members) {
+    const others = new Map(kept.members);
     for (const [name, it] of json.members) {
-      const inner = path ? `${path}.${name}` : name, other = kept.member(name);
-      if (other === null) yield [inner, it];
-      else yield* leftOut(it, other, inner);
+      const inner = path ? `${path}.${name}` : name;
+      if (others.has(name)) yield* leftOut(it, others.get(name), inner);
+      else yield [inner, it];
     }
   } else if (json.elements && kept.elements) {
     let k = 0;
     for (const [index, it] of json.elements.entries()) {
+      const inner = `${path}[${index}]`, other = kept.elements[k];
       const isForced = json.elements.length - index === kept.elements.length - k;
-      if (k < kept.elements.length && (isForced || isLike(it, kept.elements[k]))) yield* leftOut(it, kept.elements[k++], `${path}[${index}]`);
-      else yield [`${path}[${index}]`, it];
+      if (other && (isForced || isLike(it, other))) {
+        yield* leftOut(it, other, inner);
+        k++;
+      } else {
+        yield [inner, it];
+      }
     }
   } else if (textOf(json) !== textOf(kept)) {
     yield [path, json];
@@ -160,15 +169,20 @@ const WITHIN = { attestationObject: "mc-response", authenticatorData: "auth", cl
 
 /** What is inside a credential's member that is bytes in base64url, as a node; null if the member's kind refuses them. */
 function within(puffgrit, name, text) {
-  const bytes = WITHIN[name] ? ofBase64(text) : null;
-  const made = bytes && orFault(() => (name === "clientDataJSON" ? { json: recordOf(puffgrit, "client-data", bytes) } : examine(puffgrit, WITHIN[name], bytes)));
-  if (!made || made instanceof Fault) return null;
-  if (name === "clientDataJSON") return jsonTree(made.json, () => null, "client-data");
-  const node = name === "authenticatorData" ? dataNode(puffgrit, bytes, 0, made.json) : treeAt(puffgrit, bytes, 0, made.json);
-  return withoutPlaces({ ...node, label: WITHIN[name] });
+  const kind = WITHIN[name], bytes = kind ? ofBase64(text) : null;
+  if (!bytes) return null;
+  if (kind === "client-data") {
+    const json = orFault(() => recordOf(puffgrit, kind, bytes));
+    return json instanceof Fault ? null : jsonTree(json, () => null, kind);
+  }
+  const made = examine(puffgrit, kind, bytes);
+  return made instanceof Fault ? null : withoutPlaces(treeOf(puffgrit, made, bytes));
 }
 
-const withoutPlaces = (node) => ({ ...node, from: null, end: null, parts: node.parts && function* () { for (const it of node.parts()) yield withoutPlaces(it); } });
+/** A node whose parts are what a function makes of them. */
+const mapped = (node, change) => ({ ...node, parts: node.parts && function* () { for (const it of node.parts()) yield change(it); } });
+
+const withoutPlaces = (node) => mapped({ ...node, from: null, end: null }, withoutPlaces);
 
 const recordOf = (puffgrit, kind, bytes) => partsOf(new TextDecoder().decode(puffgrit.rewrite(kind, bytes)));
 
@@ -182,15 +196,16 @@ function treeOf(puffgrit, { kind, json }, bytes) {
 function plainTree(puffgrit, lists, kind, bytes) {
   const made = examine(puffgrit, "cbor", bytes), names = lists.members[kind] ?? {};
   if (made instanceof Fault) return null;
-  const tree = treeOf(puffgrit, made, bytes);
-  const parts = tree.parts && function* () { for (const it of tree.parts()) yield names[it.label] ? { ...it, label: `${names[it.label]} (${it.label})` } : it; };
-  return { ...tree, label: kind, parts };
+  const named = (it) => (names[it.label] ? { ...it, label: `${names[it.label]} (${it.label})` } : it);
+  return mapped({ ...treeOf(puffgrit, made, bytes), label: kind }, named);
 }
 
-/** What is told of an input before anything is known: its kind; the bytes that are looked at; what stands before them; the kinds that
+/** What is known of an input at first: its kind; the bytes that are looked at; what stands before them; the kinds that
  * accept it, the best first; lines about it; the JSON of what is left out; a tree, or null; the fault, or null, with its explanation and the
  * range of what is refused; and whether a node is on the way to that, by the node and by how many nodes of the way are known. */
-const NOTHING = { kind: "", bytes: null, before: "", kinds: [], lines: [], left: [], tree: null, fault: null, explanation: null, range: null, isWay: null };
+const NOTHING = {
+  kind: "", bytes: null, before: "", kinds: [], lines: [], left: [], tree: null, fault: null, explanation: null, range: null, isWay: null,
+};
 
 const holds = (node, { from, end }) => node.from !== null && node.from <= from && end <= node.end && from < node.end;
 
@@ -205,7 +220,7 @@ const rangeOf = ({ offset, length }, base) => ({ from: offset + base, end: offse
 
 const movedText = ({ explanation }, base) => explanation.replace(/offset (\d+)/, (_, offset) => `offset ${Number(offset) + base}`);
 
-/** What is refused of bytes as a kind, and where: of a member that has to be authenticator data what in them is, and of one that is missing
+/** Why bytes are refused as a kind, and where: of a member that has to be authenticator data what in them is, and of one that is missing
  * its name, too. */
 function refusedIn(puffgrit, lists, kind, bytes, fault) {
   const item = fault.explanation?.includes(": a byte string with authenticator data is wanted") ? puffgrit.itemAt(bytes, fault.offset) : null;
@@ -215,41 +230,42 @@ function refusedIn(puffgrit, lists, kind, bytes, fault) {
   return { explanation: fault.explanation + (name ? `: ${name}` : ""), range: rangeOf(fault, 0) };
 }
 
-/** Returns what is told of bytes as the kind that was chosen, or as the best one. */
+/** Returns what is known of bytes as the kind that was chosen, or as the best one. */
 function inspectBytes(puffgrit, lists, bytes, chosen) {
   const frame = chosen ? { text: "", length: 0, kind: null } : frameOf(lists, bytes);
-  const body = bytes.subarray(frame.length), kinds = chosen ? [] : frame.kind ? [frame.kind] : lists.found;
-  const matches = found(puffgrit, lists, body, kinds);
+  const body = bytes.subarray(frame.length), kinds = frame.kind ? [frame.kind] : lists.found;
+  const matches = chosen ? [] : found(puffgrit, lists, body, kinds);
   const kind = chosen ?? matches[0]?.kind ?? frame.kind ?? "cbor";
-  const told = { ...NOTHING, kind, bytes: body, before: frame.text, kinds: matches.map((it) => it.kind) };
-  if (frame.length && body.length === 0) return told;
-  const made = examine(puffgrit, kind, body);
+  const known = { ...NOTHING, kind, bytes: body, before: frame.text, kinds: matches.map((it) => it.kind) };
+  if (frame.length && body.length === 0) return known;
+  const made = matches[0] ?? examine(puffgrit, kind, body);
   if (made instanceof Fault) {
     const refused = refusedIn(puffgrit, lists, kind, body, made);
-    return { ...told, fault: made, ...refused, tree: plainTree(puffgrit, lists, kind, body), isWay: (node) => holds(node, refused.range) };
+    const tree = plainTree(puffgrit, lists, kind, body);
+    return { ...known, fault: made, ...refused, tree, isWay: (node) => holds(node, refused.range) };
   }
   const again = encodedAgain(puffgrit, made, body), trailing = body.length - made.read;
   const lines = [...newerMembers(puffgrit, made, body), ...again.lines, ...undecoded(puffgrit, made, body)];
   if (trailing) lines.push({ text: `trailing bytes: ${trailing}`, from: made.read, end: body.length });
-  return { ...told, lines, left: again.left, tree: treeOf(puffgrit, made, body) };
+  return { ...known, lines, left: again.left, tree: treeOf(puffgrit, made, body) };
 }
 
-/** Returns what is told of a JSON text. */
+/** Returns what is known of a JSON text. */
 function inspectJson(puffgrit, lists, bytes, chosen) {
   const accepts = (kind) => !(orFault(() => puffgrit.rewrite(kind, bytes)) instanceof Fault);
-  const kinds = chosen ? [] : lists.foundJson.filter(accepts), isJson = puffgrit.explain("client-data", bytes)?.fault !== "BadJson";
+  const isJson = puffgrit.explain("client-data", bytes)?.fault !== "BadJson", kinds = chosen ? [] : lists.foundJson.filter(accepts);
   const kind = chosen ?? (isJson ? toldKind(partsOf(new TextDecoder().decode(bytes))) : null) ?? kinds[0] ?? "client-data";
-  const told = { ...NOTHING, kind, bytes, kinds };
+  const known = { ...NOTHING, kind, bytes, kinds };
   const json = orFault(() => recordOf(puffgrit, kind, bytes));
   if (json instanceof Fault) {
     const labels = isJson ? labelsOf(json.explanation ?? "") : [];
     const tree = isJson ? jsonTree(partsOf(new TextDecoder().decode(bytes)), () => null, kind) : null;
-    return { ...told, fault: json, explanation: json.explanation, tree, isWay: (node, level) => node.label === labels[level] };
+    return { ...known, fault: json, explanation: json.explanation, tree, isWay: (node, level) => node.label === labels[level] };
   }
-  return { ...told, tree: jsonTree(json, (name, text) => within(puffgrit, name, text), kind) };
+  return { ...known, tree: jsonTree(json, (name, text) => within(puffgrit, name, text), kind) };
 }
 
-/** Returns what is told of an input: its bytes, whether they are a JSON text, and the kind that was chosen, or null. */
+/** Returns what is known of an input: its bytes, whether they are a JSON text, and the kind that was chosen, or null. */
 export function inspect(puffgrit, lists, bytes, isJson, chosen) {
   return isJson ? inspectJson(puffgrit, lists, bytes, chosen) : inspectBytes(puffgrit, lists, bytes, chosen);
 }

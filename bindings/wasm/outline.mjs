@@ -126,7 +126,8 @@ export class Outline {
   press(key) {
     const at = document.activeElement, line = this.lines.get(at);
     if (!line) return false;
-    const moves = { ArrowDown: at.nextElementSibling, ArrowUp: at.previousElementSibling, Home: this.top.element, End: this.root.lastElementChild };
+    const moves = { ArrowDown: at.nextElementSibling, ArrowUp: at.previousElementSibling };
+    Object.assign(moves, { Home: this.root.firstElementChild, End: this.root.lastElementChild });
     if (key in moves) {
       if (moves[key]) this.focus(moves[key]);
     } else if (key === "Enter" || key === " ") {

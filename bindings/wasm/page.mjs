@@ -67,27 +67,27 @@ function tellRefusals({ bytes, kind }, isJson) {
   };
 }
 
-function showTree(told) {
-  outline = new Outline(at("tree"), told.tree, told.left, (node, isFocus) => {
+function showTree(known) {
+  outline = new Outline(at("tree"), known.tree, known.left, (node, isFocus) => {
     dump?.light(node === null || node.from === null ? null : { from: node.from, end: node.end }, isFocus);
   });
-  if (told.isWay) outline.reach(told.isWay).element.classList.add("refused");
+  if (known.isWay) outline.reach(known.isWay).element.classList.add("refused");
 }
 
-/** Shows what is told of an input. */
-function showTold(told, { form, bytes }) {
-  const isJson = form === "JSON", { fault } = told;
+/** Shows what is known of an input. */
+function showKnown(known, { form, bytes }) {
+  const isJson = form === "JSON", { fault } = known;
   tell(`${form}, ${bytes.length} ${bytes.length === 1 ? "byte" : "bytes"}`);
-  if (told.before) tell(told.before);
-  tellKinds(told.kinds);
-  if (fault) tellFault(told);
-  told.lines.forEach(tell);
-  if (!isJson && !fault && told.tree && puffgrit.itemLen(told.bytes) === told.bytes.length) {
-    tell(puffgrit.isCanonical(told.bytes) ? "canonical" : "not in CTAP2's canonical form");
+  if (known.before) tell(known.before);
+  tellKinds(known.kinds);
+  if (fault) tellFault(known);
+  known.lines.forEach(tell);
+  if (!isJson && !fault && known.tree && puffgrit.itemLen(known.bytes) === known.bytes.length) {
+    tell(puffgrit.isCanonical(known.bytes) ? "canonical" : "not in CTAP2's canonical form");
   }
-  dump = isJson ? null : new Dump(at("bytes"), told.bytes, told.range);
-  if (told.tree) showTree(told);
-  tellRefusals(told, isJson);
+  dump = isJson ? null : new Dump(at("bytes"), known.bytes, known.range);
+  if (known.tree) showTree(known);
+  tellRefusals(known, isJson);
 }
 
 /** Shows the input anew. */
@@ -106,7 +106,7 @@ function show() {
     return;
   }
   try {
-    showTold(inspect(puffgrit, LISTS, given.bytes, given.form === "JSON", chosen), given);
+    showKnown(inspect(puffgrit, LISTS, given.bytes, given.form === "JSON", chosen), given);
   } catch (error) {
     console.error(error);
     tell(error instanceof RangeError ? error.message : "puffgrit stopped");
@@ -116,10 +116,10 @@ function show() {
 
 /** Takes the input and the kind out of the fragment of the page's address. */
 function takeLink() {
-  const told = new URLSearchParams(location.hash.slice(1));
-  if (!told.has("input")) return;
-  at("input").value = told.get("input");
-  at("kind").value = KINDS.includes(told.get("kind")) ? told.get("kind") : "";
+  const link = new URLSearchParams(location.hash.slice(1));
+  if (!link.has("input")) return;
+  at("input").value = link.get("input");
+  at("kind").value = KINDS.includes(link.get("kind")) ? link.get("kind") : "";
   show();
 }
 
