@@ -43,7 +43,7 @@ RUST = """\
 use puffgrit::{member, Key};
 #[cfg(feature = "whole")]
 fn explain() {
-    if let Ok(puffgrit::Verdict::Rejected(why)) = puffgrit::explain(puffgrit::Kind::McRequest, b"\\xa1\\x01\\xf5", &mut [0; 200]) {
+    if let Ok(puffgrit::Verdict::Rejected(why)) = puffgrit::explain(puffgrit::Kind::MakeCredentialRequest, b"\\xa1\\x01\\xf5", &mut [0; 200]) {
         println!("{}", why.text);
     }
 }
@@ -93,7 +93,8 @@ def without_rt():
 def unpacked(archive, folder):
     """The one folder in the archive."""
     with tarfile.open(archive) as it:
-        it.extractall(folder, filter="data")
+        # Python 3.11.4 and later warn of an archive that isn't asked to be harmless.
+        it.extractall(folder, **({"filter": "data"} if hasattr(tarfile, "data_filter") else {}))
     return next(it for it in folder.iterdir() if it.is_dir())
 
 
@@ -158,12 +159,15 @@ def scripts(folder, python, **more):
     return run([python, script], folder, **more) + run([python, folder / "why.py"], folder, **more)
 
 
-def installed(archive, folder, flags=(), **more):
-    """The Python of an environment of its own, in which pip installed the archive; None if that can't be."""
+def environment(folder, modules, flags=()):
+    """The Python of an environment of its own that has pip and these modules; None where there is none."""
     made = subprocess.run([sys.executable, "-m", "venv", *flags, folder / "venv"], capture_output=True, check=False)
     python = folder / "venv" / "bin" / "python"
-    words = [python, "-m", "pip", "install", "--quiet", "--no-index", "--no-build-isolation", archive]
-    return python if made.returncode == 0 and "ended" not in run(words, folder, **more) else None
+    is_there = made.returncode == 0 and subprocess.run([python, "-c", f"import {', '.join(modules)}"], capture_output=True, check=False).returncode == 0
+    return python if is_there else None
+
+
+INSTALL = ["-m", "pip", "install", "--quiet", "--no-index", "--no-build-isolation"]
 
 
 def library_beside(archive, folder):
@@ -172,19 +176,19 @@ def library_beside(archive, folder):
 
 
 def python_source(archive, folder):
-    """By pip with the library of the archive for C, which is taken along, or unpacked where pip has no setuptools to build it."""
+    """By pip with the library of the archive for C, which is taken along, or unpacked where there is nothing to build it with."""
     library = library_beside(archive, folder / "prefix")
-    python = installed(archive, folder, ["--system-site-packages"], PUFFGRIT_LIBRARY=library)
+    python = environment(folder, ["pip", "setuptools", "wheel"], ["--system-site-packages"])
     if python:
-        return scripts(folder, python)
+        return run([python, *INSTALL, archive], folder, PUFFGRIT_LIBRARY=library) + scripts(folder, python)
     return scripts(folder, sys.executable, PYTHONPATH=str(unpacked(archive, folder / "source")), PUFFGRIT_LIBRARY=library)
 
 
 def wheel(archive, folder):
     """By pip, or unpacked where there is no pip."""
-    python = installed(archive, folder)
+    python = environment(folder, ["pip"])
     if python:
-        return scripts(folder, python)
+        return run([python, *INSTALL, archive], folder) + scripts(folder, python)
     with zipfile.ZipFile(archive) as it:
         it.extractall(folder / "site")
     return scripts(folder, sys.executable, PYTHONPATH=str(folder / "site"))
