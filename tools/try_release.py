@@ -131,7 +131,9 @@ def aarch64(archive, folder):
 def portable(archive, folder, names=("algorithms", "why")):
     """With the one file of C99 that is in it."""
     top = unpacked(archive, folder)
-    return programs(folder, [*needs.CC, "-std=c99", "-Wall", "-Wextra", "-pedantic", "-Werror", "SOURCE", *top.glob("*.c"), f"-I{top}"], names=names)
+    words = [*needs.CC, "-std=c99", "-Wall", "-Wextra", "-pedantic", "-Werror", f"-I{top}"]
+    said = run([*words, "-c", *top.glob("*.c"), "-o", folder / "puffgrit.o"], folder)
+    return said + programs(folder, [*words, "SOURCE", folder / "puffgrit.o"], names=names)
 
 
 def looking(archive, folder):
@@ -178,7 +180,7 @@ def library_beside(archive, folder):
 def python_source(archive, folder):
     """By pip with the library of the archive for C, which is taken along, or unpacked where there is nothing to build it with."""
     library = library_beside(archive, folder / "prefix")
-    python = environment(folder, ["pip", "setuptools", "wheel"], ["--system-site-packages"])
+    python = environment(folder, ["setuptools", "wheel", "pip"], ["--system-site-packages"])
     if python:
         return run([python, *INSTALL, archive], folder, PUFFGRIT_LIBRARY=library) + scripts(folder, python)
     return scripts(folder, sys.executable, PYTHONPATH=str(unpacked(archive, folder / "source")), PUFFGRIT_LIBRARY=library)
