@@ -165,11 +165,11 @@ function undecoded(puffgrit, { kind, json }, bytes) {
   return lines.length || format !== "att-tpm" ? lines : structureLines(puffgrit, bytes, statement.from, "attStmt.");
 }
 
-const WITHIN = { attestationObject: "mc-response", authenticatorData: "auth", clientDataJSON: "client-data" };
+const WITHIN = new Map([["attestationObject", "mc-response"], ["authenticatorData", "auth"], ["clientDataJSON", "client-data"]]);
 
 /** What is inside a credential's member that is bytes in base64url, as a node; null if the member's kind refuses them. */
 function within(puffgrit, name, text) {
-  const kind = WITHIN[name], bytes = kind ? ofBase64(text) : null;
+  const kind = WITHIN.get(name), bytes = kind ? ofBase64(text) : null;
   if (!bytes) return null;
   if (kind === "client-data") {
     const json = orFault(() => recordOf(puffgrit, kind, bytes));
@@ -196,7 +196,7 @@ function treeOf(puffgrit, { kind, json }, bytes) {
 function plainTree(puffgrit, lists, kind, bytes) {
   const made = examine(puffgrit, "cbor", bytes), names = lists.members[kind] ?? {};
   if (made instanceof Fault) return null;
-  const named = (it) => (names[it.label] ? { ...it, label: `${names[it.label]} (${it.label})` } : it);
+  const named = (it) => (Object.hasOwn(names, it.label) ? { ...it, label: `${names[it.label]} (${it.label})` } : it);
   return mapped({ ...treeOf(puffgrit, made, bytes), label: kind }, named);
 }
 
