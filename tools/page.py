@@ -66,6 +66,7 @@ def members(messages):
 def lists(messages):
     """What the page takes from the sources, as a script; `messages` are those of tools/header."""
     made = {"found": found("FOUND_KINDS"), "foundJson": found("FOUND_JSON_KINDS"), "statuses": statuses(), "commands": commands(), "members": members(messages)}
+    made["ofJson"] = [it for it in kinds.numbers() if it not in kinds.of_bytes()]
     lacking = [name for name, it in made.items() if not it] + [it for it, names in made["members"].items() if not names]
     if lacking:
         raise SystemExit(f"tools/page.py: the sources have no table of {', '.join(lacking)}")

@@ -2,16 +2,39 @@
 // when it opens, so many lines at a time.
 import { element } from "./dump.mjs";
 
-const AT_ONCE = 100, AT_FIRST = 400, REACHED = 2000;
+// How many lines are made at once, at first, and to come to what is refused; and the level from which on lines aren't indented further.
+const AT_ONCE = 100, AT_FIRST = 400, REACHED = 2000, DEEPEST = 12;
 
-/** A line, with those inside that were made. */
+/** The element of a line, at a level of the tree, the outermost of which is 1. */
+function lineElement(className, text, level) {
+  const made = element("div", className, text);
+  made.style.setProperty("--level", Math.min(level - 1, DEEPEST));
+  for (const [name, it] of Object.entries({ role: "treeitem", "aria-level": level, tabindex: -1 })) made.setAttribute(name, it);
+  return made;
+}
+
+/** A line that makes more lines of those inside another one. */
+class More {
+  node = null;
+
+  constructor(above) {
+    const { node, inside, level, outline } = above;
+    this.above = above;
+    this.element = lineElement("line more", `${Math.min(AT_ONCE, node.count - inside.length)} more of ${node.count}`, level + 1);
+    outline.lines.set(this.element, this);
+  }
+
+  toggle() {
+    this.above.addMore(AT_ONCE);
+  }
+}
+
+/** A line of a node, with those inside that were made. */
 class Line {
   constructor(outline, node, above) {
     Object.assign(this, { outline, node, above, level: above ? above.level + 1 : 1, left: null, inside: [], more: null });
-    this.element = element("div", outline.left.has(node.json) ? "line left" : "line");
-    this.element.style.setProperty("--level", Math.min(this.level - 1, 12));
-    const attributes = { role: "treeitem", "aria-level": this.level, tabindex: -1, ...(node.parts ? { "aria-expanded": false } : {}) };
-    for (const [name, it] of Object.entries(attributes)) this.element.setAttribute(name, it);
+    this.element = lineElement(outline.left.has(node.json) ? "line left" : "line", "", this.level);
+    if (node.parts) this.element.setAttribute("aria-expanded", false);
     const place = node.from === null ? "" : node.from === node.end ? `${node.from}` : `${node.from}\u2013${node.end - 1}`;
     this.element.append(element("bdi", "label", node.label), element("bdi", "text", node.text), element("span", "place", place));
     outline.lines.set(this.element, this);
@@ -23,7 +46,7 @@ class Line {
 
   /** The last element that is shown of this line and of what is inside. */
   get lastElement() {
-    return this.more ?? this.inside.at(-1)?.lastElement ?? this.element;
+    return this.more?.element ?? this.inside.at(-1)?.lastElement ?? this.element;
   }
 
   open() {
@@ -35,30 +58,22 @@ class Line {
 
   /** Makes so many more of the lines inside. */
   addMore(count) {
-    const wasFocused = this.more !== null && this.more === document.activeElement;
-    this.more?.remove();
+    const wasFocused = this.more !== null && this.more.element === document.activeElement;
+    this.more?.element.remove();
     this.more = null;
     const first = this.inside.length;
-    let isDone = false, last = this.lastElement;
-    for (let k = 0; k < count && !isDone; k++) {
-      const { value, done } = this.left.next();
-      isDone = done;
-      if (done) break;
-      const line = new Line(this.outline, value, this);
+    let last = this.lastElement;
+    while (this.inside.length < Math.min(first + count, this.node.count)) {
+      const line = new Line(this.outline, this.left.next().value, this);
       this.inside.push(line);
       last.after(line.element);
       last = line.element;
     }
-    if (this.inside.length < this.node.count && !isDone) this.addButton(last);
-    if (wasFocused) this.outline.focus(this.inside[first]?.element ?? this.element);
-  }
-
-  addButton(last) {
-    this.more = element("div", "line more", `${Math.min(AT_ONCE, this.node.count - this.inside.length)} more of ${this.node.count}`);
-    this.more.style.setProperty("--level", Math.min(this.level, 12));
-    for (const [name, it] of Object.entries({ role: "treeitem", "aria-level": this.level + 1, tabindex: -1 })) this.more.setAttribute(name, it);
-    this.outline.lines.set(this.more, { more: true, above: this });
-    last.after(this.more);
+    if (this.inside.length < this.node.count) {
+      this.more = new More(this);
+      last.after(this.more.element);
+    }
+    if (wasFocused) this.outline.focus(this.inside[first].element);
   }
 
   close() {
@@ -66,9 +81,14 @@ class Line {
       it.close();
       it.element.remove();
     }
-    this.more?.remove();
+    this.more?.element.remove();
     Object.assign(this, { left: null, inside: [], more: null });
     if (this.node.parts) this.element.setAttribute("aria-expanded", false);
+  }
+
+  toggle() {
+    if (this.isOpen) this.close();
+    else this.open();
   }
 }
 
@@ -109,17 +129,11 @@ export class Outline {
     }
   }
 
-  focus(line) {
+  /** Gives the focus to the element of a line, which then is the one that the tabulator comes to. */
+  focus(it) {
     this.root.querySelector('[tabindex="0"]')?.setAttribute("tabindex", -1);
-    line.tabIndex = 0;
-    line.focus();
-  }
-
-  /** Opens or closes a line, or makes more lines. */
-  toggle(line) {
-    if (line.more === true) line.above.addMore(AT_ONCE);
-    else if (line.isOpen) line.close();
-    else line.open();
+    it.tabIndex = 0;
+    it.focus();
   }
 
   /** Does what a key does; returns whether it does anything. */
@@ -131,7 +145,7 @@ export class Outline {
     if (key in moves) {
       if (moves[key]) this.focus(moves[key]);
     } else if (key === "Enter" || key === " ") {
-      this.toggle(line);
+      line.toggle();
     } else if (key === "ArrowRight" && line.node?.parts) {
       if (line.isOpen && line.inside.length) this.focus(line.inside[0].element);
       line.open();
@@ -144,27 +158,25 @@ export class Outline {
     return true;
   }
 
-  /** The line of an event. */
+  /** The line at which an event is; undefined if it is at none. */
   lineOf(event) {
-    const found = event.target.closest('[role="treeitem"]');
-    return found ? [found, this.lines.get(found)] : [];
+    return this.lines.get(event.target.closest('[role="treeitem"]'));
   }
 }
 
 /** Hears what is done in this element to the outline that `current` gives, if there is one. */
 export function hearOutline(root, current) {
   const choose = (event, isFocus) => {
-    const [, line] = current()?.lineOf(event) ?? [];
-    current()?.chosen(line?.node ?? null, isFocus);
+    current()?.chosen(current().lineOf(event)?.node ?? null, isFocus);
   };
   root.addEventListener("mouseover", (event) => choose(event, false));
   root.addEventListener("mouseleave", () => current()?.chosen(null, false));
   root.addEventListener("focusin", (event) => choose(event, true));
   root.addEventListener("click", (event) => {
-    const [found, line] = current()?.lineOf(event) ?? [];
-    if (!found || !getSelection().isCollapsed) return;
-    current().focus(found);
-    current().toggle(line);
+    const line = current()?.lineOf(event);
+    if (!line || !getSelection().isCollapsed) return; // text that is marked stays so
+    current().focus(line.element);
+    line.toggle();
   });
   root.addEventListener("keydown", (event) => {
     if (!event.altKey && !event.ctrlKey && !event.metaKey && current()?.press(event.key)) event.preventDefault();

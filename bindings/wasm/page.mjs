@@ -100,13 +100,17 @@ function show() {
   at("link").hidden = input === "" || fragment.length > LONGEST_LINK;
   at("link").href = `#${fragment}`;
   if (input.trim() === "") return;
-  const given = spelled(input);
+  const isJsonKind = LISTS.ofJson.includes(chosen), given = spelled(input, isJsonKind), isJson = given?.form === "JSON";
   if (given === null) {
     tell("neither JSON nor hexadecimal nor base64");
     return;
   }
+  if (isJson && chosen && !isJsonKind) {
+    tell(`${chosen} is for bytes, and the input is JSON`);
+    return;
+  }
   try {
-    showKnown(inspect(puffgrit, LISTS, given.bytes, given.form === "JSON", chosen), given);
+    showKnown(inspect(puffgrit, LISTS, given.bytes, isJson, chosen), given);
   } catch (error) {
     console.error(error);
     tell(error instanceof RangeError ? error.message : "puffgrit stopped");
@@ -130,7 +134,7 @@ async function takeFile(file) {
   show();
 }
 
-at("kind").append(new Option("found", ""), ...KINDS.map((it) => new Option(it, it)));
+at("kind").append(new Option("the best one", ""), ...KINDS.map((it) => new Option(it, it)));
 for (const [title, kind, input] of EXAMPLES) {
   const link = element("a", "", title);
   link.href = `#${new URLSearchParams({ ...(kind ? { kind } : {}), input })}`;

@@ -29,9 +29,10 @@ export function ofBase64(text) {
   return Uint8Array.from(atob(symbols), (it) => it.charCodeAt(0));
 }
 
-/** What a text spells: the form, and the bytes, of a JSON text its UTF-8; null if it spells none. */
-export function spelled(text) {
-  if (/^[\t\n\r ]*\{/.test(text)) return { form: "JSON", bytes: new TextEncoder().encode(text) };
+/** What a text spells: the form, and the bytes, of a JSON text its UTF-8; null if it spells none. It is one of JSON if it begins as an
+ * object, or has to be one. */
+export function spelled(text, isJson = false) {
+  if (isJson || /^[\t\n\r ]*\{/.test(text)) return { form: "JSON", bytes: new TextEncoder().encode(text) };
   for (const [form, read] of [["hexadecimal", ofHexadecimal], ["base64", ofBase64]]) {
     const bytes = read(text);
     if (bytes !== null) return { form, bytes };
