@@ -2,7 +2,7 @@
 // when it opens, so many lines at a time.
 import { element } from "./dump.mjs";
 
-// How many lines are made at once, at first, and to come to what is refused; and the level from which on lines aren't indented further.
+// How many lines are made at once, at first, and to come to what is refused; and the deepest level that is indented.
 const AT_ONCE = 100, AT_FIRST = 400, REACHED = 2000, DEEPEST = 12;
 
 /** The element of a line, at a level of the tree, the outermost of which is 1. */
