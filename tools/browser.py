@@ -8,8 +8,10 @@ import os
 import shutil
 import subprocess
 import tempfile
+import time
 
 NAMES = ["chromium", "chromium-browser", "google-chrome"]
+SECONDS = 60
 FLAGS = ["--headless=new", "--disable-gpu", "--remote-debugging-pipe", "--no-first-run", "--hide-scrollbars", "--force-color-profile=srgb"]
 FLAGS += ["--disable-background-networking", "--disable-component-update", "--disable-sync", "--font-render-hinting=none"]
 
@@ -86,9 +88,16 @@ class Page:
     def load(self, address, is_ready="true"):
         """Goes to an address, and waits until an expression holds there."""
         self.call("Page.navigate", url=address)
-        wait = f"new Promise((done) => {{ const look = () => ({is_ready}) ? done() : setTimeout(look, 10); look(); }})"
         self.evaluate("document.readyState === 'complete' || new Promise((done) => addEventListener('load', done))")
-        self.evaluate(wait)
+        end = time.monotonic() + SECONDS
+        while not self.evaluate(is_ready):
+            if time.monotonic() > end:
+                raise Failed(f"{address[:100]} isn't ready after {SECONDS} seconds: {self.thrown()}")
+            time.sleep(0.01)
+
+    def thrown(self):
+        """What the page threw, or wrote to the console."""
+        return [it["params"] for it in self.events if it.get("method") in ("Runtime.exceptionThrown", "Runtime.consoleAPICalled")]
 
     def press(self, key):
         code = {"Enter": 13, " ": 32, "End": 35, "Home": 36, "ArrowLeft": 37, "ArrowUp": 38, "ArrowRight": 39, "ArrowDown": 40, "Tab": 9}[key]

@@ -240,9 +240,12 @@ def page(archive, folder):
     with browser.Page() as shown:
         for kind, text, expression in [("info", INFO.read_text(encoding="utf-8"), SHOWN), ("mc-request", "a101f5", EXPLAINED)]:
             address = f"{archive.as_uri()}#{urllib.parse.urlencode({'kind': kind, 'input': text})}"
-            shown.load("about:blank")
-            shown.load(address, "document.getElementById('lines').hasChildNodes()")
-            said += shown.evaluate(expression)
+            try:
+                shown.load("about:blank")
+                shown.load(address, "document.getElementById('lines').hasChildNodes()")
+                said += shown.evaluate(expression)
+            except browser.Failed as error:
+                return str(error)
     return said
 
 
