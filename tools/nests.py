@@ -1,6 +1,8 @@
-"""Inputs that nest as deep as the library decodes, for tools/test-c, which measures the stack: of one form of levels, and of forms by turns."""
+"""Inputs that nest as deep as the library decodes, of one form of levels and of forms by turns, and how much of the stack calls take over them,
+for tools/test-c and tools/test-release."""
 
 import itertools
+import subprocess
 
 import kinds
 
@@ -67,3 +69,18 @@ def inputs():
             yield from around(nested(forms, 255, leaf))
     yield from ((kind, nested([form], 256, "00")) for kind in kinds.numbers() for form in FORMS)
     yield from ((kind, text.encode().hex()) for kind, text in texts())
+
+
+def stack(program, looks_alone=False):
+    """What a program of bindings/c/stack.c says: how many bytes of the stack each call takes at most, and at which request; None if it fails."""
+    numbers = kinds.numbers()
+    asked = [f"{call} {numbers[kind]} {given}" for call in ["rewrite", "show"] for kind, given in inputs()] * (not looks_alone)
+    asked += [f"{call} {given}" for call in ["look", "check"] for given in items()]
+    done = subprocess.run([program], input="".join(f"{it}\n" for it in asked), capture_output=True, text=True, timeout=1200, check=False)
+    taken = [int(it) for it in done.stdout.split()]
+    if done.returncode != 0 or len(taken) != len(asked):
+        return None
+    most = {ask.partition(" ")[0]: (size, ask) for size, ask in sorted(zip(taken, asked))}
+    for call, (size, ask) in most.items():
+        print(f"{program.name}: {call} takes {size / 1024:.1f} KiB of the stack ({ask[:60]})", flush=True)
+    return most

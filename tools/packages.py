@@ -96,6 +96,13 @@ def npm(to, version, module):
     return tar(to / f"puffgrit-npm-{version}.tgz", "package", {**files, **licenses()})
 
 
+def inspector(to, version, text):
+    """The inspector page, which is one file."""
+    made = to / f"puffgrit-inspector-{version}.html"
+    made.write_text(text, encoding="utf-8")
+    return made
+
+
 def python_source(to, project):
     """The Python package without the library: it is installed with the one that PUFFGRIT_LIBRARY names, or over the system's."""
     files = folder(BINDINGS / "python", [".py", ".toml", ".md", ".typed"])
@@ -105,9 +112,10 @@ def python_source(to, project):
 
 
 def platform(library):
-    """The tag of a wheel with this library: of the newest version of glibc that its symbols need (PEP 600)."""
+    """The tag of a wheel with this library: of the newest version of glibc that its symbols need (PEP 600), at least the oldest that pip
+    knows."""
     said = subprocess.run(["objdump", "-T", library], capture_output=True, text=True, check=True).stdout
-    newest = max(tuple(map(int, it)) for it in re.findall(r"GLIBC_(\d+)\.(\d+)", said))
+    newest = max([(2, 5), *(tuple(map(int, it)) for it in re.findall(r"GLIBC_(\d+)\.(\d+)", said))])
     return f"manylinux_{newest[0]}_{newest[1]}_x86_64"
 
 

@@ -12,6 +12,7 @@ import sys
 from pathlib import Path
 
 import needs
+import nests
 
 ROOT = Path(__file__).resolve().parent.parent
 ROOM = ROOT / "out" / "same-answers"
@@ -85,7 +86,7 @@ class Compared:
         return given, answers
 
     def c(self, name, compiler, source):
-        """The C by this compiler; and the stack that it takes."""
+        """The C by this compiler; and the stack that it takes without a sanitizer."""
         code = compiled(f"{name}.o", [*compiler, *STRICT, f"-I{C}", "-c", source])
         program = compiled(name, [*compiler, f"-I{C}", C / "looks.c", code])
         for given, answers in self.files:
@@ -93,7 +94,7 @@ class Compared:
             self.want(done.stdout == answers.read_text(encoding="utf-8") and not done.stderr, f"C, {name}, {given.name}")
             print(done.stderr[:2000], end="", file=sys.stderr)
         if "-fsanitize" not in " ".join(compiler):
-            print(run([compiled("stack", [*compiler, f"-I{C}", C / "stack.c", code, "-lpthread"])]).stdout, end="")
+            nests.stack(compiled(f"stack_{name}", [*compiler, f"-I{C}", C / "stack.c", code, "-lpthread"]))
 
     def wasm(self, module):
         for script, (given, answers) in zip(["replay_all.mjs", "replay.mjs"], self.files):

@@ -1,5 +1,6 @@
 """Uses what tools/release made as somebody has it who has neither the toolchain nor the network: each archive is unpacked or installed in a
-folder of its own, and prints the algorithms of bench/messages/info.hex."""
+folder of its own, and prints the algorithms of bench/messages/info.hex; and those that decode, also why a request is refused, by README's
+lines of C and Python."""
 
 import functools
 import os
@@ -8,15 +9,20 @@ import subprocess
 import sys
 import tarfile
 import tempfile
+import urllib.parse
 import zipfile
 from pathlib import Path
 
+import browser
 import copies
+import docs
 import needs
 
 ROOT = Path(__file__).resolve().parent.parent
 INFO = ROOT / "bench" / "messages" / "info.hex"
 ALGORITHMS = "-7\n-8\n"
+# What is wrong with {1: true} as an authenticatorMakeCredential request.
+WHY = "clientDataHash: a byte string is wanted (offset 2, length 1)\n"
 
 JAVASCRIPT = """\
 import { readFileSync } from "node:fs";
@@ -30,10 +36,19 @@ for (let at = list.content; at < list.end; at = puffgrit.itemAt(bytes, at).end) 
 }
 const decoded = all.decode("info", bytes), again = all.rewrite("info", bytes);
 if (!decoded.versions.includes("FIDO_2_0") || all.explain("info", again) || !(all.explain("info", bytes.slice(1)) instanceof Fault)) process.exit(1);
+console.log(all.explain("mc-request", Uint8Array.of(0xa1, 1, 0xf5)).explanation);
 """
 
 RUST = """\
 use puffgrit::{member, Key};
+#[cfg(feature = "whole")]
+fn explain() {
+    if let Ok(puffgrit::Verdict::Rejected(why)) = puffgrit::explain(puffgrit::Kind::MakeCredentialRequest, b"\\xa1\\x01\\xf5", &mut [0; 200]) {
+        println!("{}", why.text);
+    }
+}
+#[cfg(not(feature = "whole"))]
+fn explain() {}
 fn main() {
     let text = std::fs::read_to_string(std::env::args().nth(1).unwrap()).unwrap();
     let text = text.trim();
@@ -41,9 +56,16 @@ fn main() {
     for algorithm in member(&bytes, 0, Key::Number(10)).unwrap().elements_in(&bytes) {
         println!("{}", algorithm.member_in(&bytes, Key::Name("alg")).unwrap().integer().unwrap());
     }
+    explain();
 }
 """
 CARGO = '[package]\nname = "user"\nversion = "0.1.0"\nedition = "2021"\n\n[dependencies]\npuffgrit = {{ path = "{crate}" }}\n'
+CARGO += '\n[features]\nwhole = ["puffgrit/whole"]\n'
+
+
+def lines_of_readme(language):
+    """README's lines on why a request is refused."""
+    return next(it.text for it in docs.blocks("README.md") if it.language == language)
 
 
 @functools.cache
@@ -71,8 +93,20 @@ def without_rt():
 def unpacked(archive, folder):
     """The one folder in the archive."""
     with tarfile.open(archive) as it:
-        it.extractall(folder, filter="data")
+        # Python 3.11.4 and later warn of an archive that isn't asked to be harmless.
+        it.extractall(folder, **({"filter": "data"} if hasattr(tarfile, "data_filter") else {}))
     return next(it for it in folder.iterdir() if it.is_dir())
+
+
+def programs(folder, words, runner=(), names=("algorithms", "why"), **more):
+    """What bindings/c/algorithms.c and README's lines of C print, compiled by these words, which `SOURCE` stands in."""
+    (folder / "why.c").write_text(lines_of_readme("c"), encoding="utf-8")
+    sources = {"algorithms": ROOT / "bindings" / "c" / "algorithms.c", "why": folder / "why.c"}
+    said = ""
+    for name in names:
+        compiler = [sources[name] if it == "SOURCE" else it for it in words]
+        said += run([*compiler, "-o", folder / name], folder) + run([*runner, folder / name], folder, **more)
+    return said
 
 
 def native(archive, folder):
@@ -81,9 +115,8 @@ def native(archive, folder):
     words = [f"-I{top}/include", f"-L{top}/lib", "-lpuffgrit"]
     if shutil.which("pkg-config"):
         words = run(["pkg-config", "--cflags", "--libs", "puffgrit"], folder, PKG_CONFIG_PATH=f"{top}/lib/pkgconfig").split()
-    source, made = ROOT / "bindings" / "c" / "algorithms.c", folder / "algorithms"
-    said = run([*needs.CC, source, *words, f"-Wl,-rpath,{top}/lib", "-o", made], folder) + run([made], folder)
-    return said if said != ALGORITHMS else run([*needs.CC, source, f"-I{top}/include", top / "lib" / "libpuffgrit.a", "-o", made], folder) + run([made], folder)
+    said = programs(folder, [*needs.CC, "SOURCE", *words, f"-Wl,-rpath,{top}/lib"])
+    return said if said != ALGORITHMS + WHY else programs(folder, [*needs.CC, "SOURCE", f"-I{top}/include", top / "lib" / "libpuffgrit.a"])
 
 
 def aarch64(archive, folder):
@@ -91,51 +124,76 @@ def aarch64(archive, folder):
     compiler, emulator = "aarch64-linux-gnu-gcc", "qemu-aarch64"
     if not shutil.which(compiler) or not shutil.which(emulator):
         return None
-    top, made = unpacked(archive, folder), folder / "algorithms"
-    words = [compiler, "-static", ROOT / "bindings" / "c" / "algorithms.c", f"-I{top}/include", top / "lib" / "libpuffgrit.a", "-o", made]
-    return run(words, folder) + run([emulator, made], folder)
+    top = unpacked(archive, folder)
+    return programs(folder, [compiler, "-static", "SOURCE", f"-I{top}/include", top / "lib" / "libpuffgrit.a"], [emulator])
 
 
-def portable(archive, folder):
+def portable(archive, folder, names=("algorithms", "why")):
     """With the one file of C99 that is in it."""
     top = unpacked(archive, folder)
-    sources, made = [ROOT / "bindings" / "c" / "algorithms.c", *top.glob("*.c")], folder / "algorithms"
-    words = [*needs.CC, "-std=c99", "-Wall", "-Wextra", "-pedantic", "-Werror", *sources, f"-I{top}", "-o", made]
-    return run(words, folder) + run([made], folder)
+    words = [*needs.CC, "-std=c99", "-Wall", "-Wextra", "-pedantic", "-Werror", f"-I{top}"]
+    said = run([*words, "-c", *top.glob("*.c"), "-o", folder / "puffgrit.o"], folder)
+    return said + programs(folder, [*words, "SOURCE", folder / "puffgrit.o"], names=names)
+
+
+def looking(archive, folder):
+    return portable(archive, folder, ["algorithms"])
 
 
 def debian(archive, folder):
     """Both packages, in a folder that stands for the root."""
     for it in archive.parent.glob("*.deb"):
         subprocess.run(["dpkg-deb", "--extract", it, folder], check=True)
-    lib, made = folder / "usr" / "lib" / "x86_64-linux-gnu", folder / "algorithms"
+    lib = folder / "usr" / "lib" / "x86_64-linux-gnu"
     words = [f"-I{folder}/usr/include", f"-L{lib}", "-lpuffgrit"]
     if shutil.which("pkg-config"):
         said = {"PKG_CONFIG_PATH": f"{lib}/pkgconfig", "PKG_CONFIG_SYSROOT_DIR": str(folder)}
         said |= {"PKG_CONFIG_ALLOW_SYSTEM_CFLAGS": "1", "PKG_CONFIG_ALLOW_SYSTEM_LIBS": "1"}
         words = run(["pkg-config", "--cflags", "--libs", "puffgrit"], folder, **said).split()
-    return run([*needs.CC, ROOT / "bindings" / "c" / "algorithms.c", *words, "-o", made], folder) + run([made], folder, LD_LIBRARY_PATH=str(lib))
+    return programs(folder, [*needs.CC, "SOURCE", *words], LD_LIBRARY_PATH=str(lib))
+
+
+def scripts(folder, python, **more):
+    """What bindings/python/algorithms.py and README's lines of Python print."""
+    # Copies, since Python looks for modules beside a script first.
+    script = shutil.copy(ROOT / "bindings" / "python" / "algorithms.py", folder)
+    (folder / "why.py").write_text(lines_of_readme("python"), encoding="utf-8")
+    return run([python, script], folder, **more) + run([python, folder / "why.py"], folder, **more)
+
+
+def environment(folder, modules, flags=()):
+    """The Python of an environment of its own that has pip and these modules; None where there is none."""
+    made = subprocess.run([sys.executable, "-m", "venv", *flags, folder / "venv"], capture_output=True, check=False)
+    python = folder / "venv" / "bin" / "python"
+    is_there = made.returncode == 0 and subprocess.run([python, "-c", f"import {', '.join(modules)}"], capture_output=True, check=False).returncode == 0
+    return python if is_there else None
+
+
+INSTALL = ["-m", "pip", "install", "--quiet", "--no-index", "--no-build-isolation"]
+
+
+def library_beside(archive, folder):
+    """The shared library of the archive for C."""
+    return str(unpacked(next(archive.parent.glob("*-x86_64-linux.tar.gz")), folder) / "lib" / "libpuffgrit.so")
 
 
 def python_source(archive, folder):
-    """With the library of the archive for C."""
-    top, prefix = unpacked(archive, folder), folder / "prefix"
-    library = unpacked(next(archive.parent.glob("*-x86_64-linux.tar.gz")), prefix) / "lib" / "libpuffgrit.so"
-    script = shutil.copy(ROOT / "bindings" / "python" / "algorithms.py", folder)
-    return run([sys.executable, script], folder, PYTHONPATH=str(top), PUFFGRIT_LIBRARY=str(library))
+    """By pip with the library of the archive for C, which is taken along, or unpacked where there is nothing to build it with."""
+    library = library_beside(archive, folder / "prefix")
+    python = environment(folder, ["setuptools", "wheel", "pip"], ["--system-site-packages"])
+    if python:
+        return run([python, *INSTALL, archive], folder, PUFFGRIT_LIBRARY=library) + scripts(folder, python)
+    return scripts(folder, sys.executable, PYTHONPATH=str(unpacked(archive, folder / "source")), PUFFGRIT_LIBRARY=library)
 
 
 def wheel(archive, folder):
-    """By pip in an environment of its own, or unpacked where there is no pip."""
-    # A copy, since Python looks for modules beside a script first.
-    script = Path(shutil.copy(ROOT / "bindings" / "python" / "algorithms.py", folder))
-    done = subprocess.run([sys.executable, "-m", "venv", folder / "venv"], capture_output=True, check=False)
-    python = folder / "venv" / "bin" / "python"
-    if done.returncode == 0 and "ended" not in run([python, "-m", "pip", "install", "--quiet", "--no-index", archive], folder):
-        return run([python, script], folder)
+    """By pip, or unpacked where there is no pip."""
+    python = environment(folder, ["pip"])
+    if python:
+        return run([python, *INSTALL, archive], folder) + scripts(folder, python)
     with zipfile.ZipFile(archive) as it:
         it.extractall(folder / "site")
-    return run([sys.executable, script], folder, PYTHONPATH=str(folder / "site"))
+    return scripts(folder, sys.executable, PYTHONPATH=str(folder / "site"))
 
 
 def npm(archive, folder):
@@ -155,30 +213,57 @@ def npm(archive, folder):
 
 
 def crate(archive, folder):
+    """With the C that it carries; and with the library of the archive for C."""
     if not shutil.which("cargo"):
         return None
     top = unpacked(archive, folder)
     (folder / "user" / "src").mkdir(parents=True)
     (folder / "user" / "src" / "main.rs").write_text(RUST, encoding="utf-8")
     (folder / "user" / "Cargo.toml").write_text(CARGO.format(crate=top), encoding="utf-8")
-    return run(["cargo", "run", "--quiet", "--offline", "--", INFO], folder / "user", CARGO_HOME=str(folder / "home"))
+    prefix = Path(library_beside(archive, folder / "prefix")).parent.parent
+    words, more = ["cargo", "run", "--quiet", "--offline"], {"CARGO_HOME": str(folder / "home"), "PUFFGRIT_PREFIX": str(prefix)}
+    said = run([*words, "--", INFO], folder / "user", **more)
+    return said if said != ALGORITHMS else run([*words, "--features", "whole", "--", INFO], folder / "user", **more)
+
+
+# The numbers of the algorithms that the inspector page shows, and why it says that an input is refused.
+SHOWN = r"""[...document.querySelectorAll(".line")].filter((it) => it.querySelector(".label")?.textContent === "alg")
+  .map((it) => it.querySelector(".text").textContent.match(/\((-?\d+)\)/)[1] + "\n").join("")"""
+EXPLAINED = r"""document.querySelector("#fault p").textContent + "\n" """
+
+
+def page(archive, folder):
+    """The inspector page, in Chromium."""
+    if browser.program() is None:
+        return None
+    said = ""
+    with browser.Page() as shown:
+        for kind, text, expression in [("info", INFO.read_text(encoding="utf-8"), SHOWN), ("mc-request", "a101f5", EXPLAINED)]:
+            address = f"{archive.as_uri()}#{urllib.parse.urlencode({'kind': kind, 'input': text})}"
+            try:
+                shown.load("about:blank")
+                shown.load(address, "document.getElementById('lines').hasChildNodes()")
+                said += shown.evaluate(expression)
+            except browser.Failed as error:
+                return str(error)
+    return said
 
 
 # How each archive is used, by what its name ends with or has in it.
-USES = {"-x86_64-linux.tar.gz": native, "puffgrit-look-": portable, "puffgrit-c-": portable, ".whl": wheel, ".tgz": npm, ".crate": crate}
+USES = {"-x86_64-linux.tar.gz": native, "puffgrit-look-": looking, "puffgrit-c-": portable, ".whl": wheel, ".tgz": npm, ".crate": crate, ".html": page}
 USES |= {"-aarch64-linux.tar.gz": aarch64, "libpuffgrit-dev_": debian, ".tar.gz": python_source}
 
 
 def run_all(archives):
-    """Yields each archive that was used, and whether it printed the algorithms; None if what it needs isn't installed."""
+    """Yields each archive that was used, and whether it printed what it should; None if what it needs isn't installed."""
     for archive in archives:
         use = next((it for name, it in USES.items() if name in archive.name), None)
         if use:
             with tempfile.TemporaryDirectory() as name:
-                said = use(archive, Path(name))
-                if said not in (None, ALGORITHMS):
+                said, wanted = use(archive, Path(name)), ALGORITHMS + (use != looking) * WHY
+                if said not in (None, wanted):
                     print(f"tools/release: {archive.name}: {said}", file=sys.stderr)
-                yield archive, None if said is None else said == ALGORITHMS
+                yield archive, None if said is None else said == wanted
 
 
 def try_all(archives):

@@ -25,6 +25,8 @@ export interface PuffgritAll extends Puffgrit {
   version(): number;
   rewrite(kind: string, bytes: Uint8Array): Uint8Array;
   rewriteFront(kind: string, bytes: Uint8Array): { bytes: Uint8Array; read: number };
+  /** The JSON text that `decode` parses, which has the members in the order of the bytes. */
+  jsonFront(kind: string, bytes: Uint8Array): { text: string; read: number };
   decode(kind: string, bytes: Uint8Array): unknown;
   decodeFront(kind: string, bytes: Uint8Array): { value: unknown; read: number };
   explain(kind: string, bytes: Uint8Array): Fault | null;

@@ -77,15 +77,22 @@ export async function loadAll(source) {
     return { bytes: made.bytes, read: made.read };
   }
 
+  /** The JSON text of which `decode` returns the value, and how many of the bytes were decoded. */
+  function jsonFront(kind, bytes) {
+    const made = accepted("puffgrit_json", kind, DECODED, bytes);
+    return { text: new TextDecoder().decode(made.bytes), read: made.read };
+  }
+
   /** What `decode` returns, and how many of the bytes were decoded. */
   function decodeFront(kind, bytes) {
-    const made = accepted("puffgrit_json", kind, DECODED, bytes);
-    return { value: JSON.parse(new TextDecoder().decode(made.bytes)), read: made.read };
+    const { text, read } = jsonFront(kind, bytes);
+    return { value: JSON.parse(text), read };
   }
 
   return {
     ...looks(calls),
     rewriteFront,
+    jsonFront,
     decodeFront,
     explain,
 

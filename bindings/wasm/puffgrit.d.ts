@@ -49,6 +49,8 @@ export interface Puffgrit {
   isCanonical(bytes: Uint8Array): boolean;
   /** The data item at the offset. */
   itemAt(bytes: Uint8Array, offset: number): Item | null;
+  /** The data items one after the other from the offset on, up to so many; fewer at the end, at a break, or where none is well-formed. */
+  itemsAt(bytes: Uint8Array, offset: number, most: number): Item[];
   /**
    * The value of the first member with this key in the map at the offset. An integer key has at most 64 bits, and is a bigint if it
    * is beyond 2 ** 53 - 1; else a RangeError is thrown.

@@ -26,6 +26,11 @@ function offsetGiven(offset) {
   return BigInt(offset);
 }
 
+function checkCount(count) {
+  if (typeof count !== "number") throw new TypeError("a count has to be a number");
+  if (!Number.isSafeInteger(count) || count < 0) throw new RangeError("a count has to be an integer from 0 to 2 ** 53 - 1");
+}
+
 /** A key that is no text, for the module. */
 function keyGiven(key) {
   if (typeof key !== "number" && typeof key !== "bigint") throw new TypeError("a key has to be a number, a BigInt or a string");
@@ -105,6 +110,15 @@ export function looks(calls) {
     itemAt(bytes, offset) {
       const [place, out] = put([bytes], ITEM);
       return is(calls.puffgrit_item_at(...slice(place, bytes), offsetGiven(offset), BigInt(out))) ? itemHere(out) : null;
+    },
+
+    /** The data items one after the other from an offset on, up to so many. */
+    itemsAt(bytes, offset, most) {
+      checkCount(most);
+      const [place, out] = put([bytes], ITEM), items = [];
+      const isThere = (at) => is(calls.puffgrit_item_at(...slice(place, bytes), at, BigInt(out)));
+      for (let at = offsetGiven(offset); items.length < most && isThere(at); at = BigInt(items.at(-1).end)) items.push(itemHere(out));
+      return items;
     },
 
     /** The value of the first member with this key, an integer or a text, in the map at an offset. */

@@ -1,13 +1,13 @@
-// node [--experimental-wasm-memory64] test.mjs MODULE: a module beside this file over items whose answers come from RFC 8949 and WebAuthn
-// Level 3.
+// node [--experimental-wasm-memory64] test.mjs MODULE: a module over items whose answers come from RFC 8949 and WebAuthn Level 3.
 import assert from "node:assert/strict";
 import { readFileSync } from "node:fs";
+import { partsOf } from "./json_text.mjs";
 import { INDEFINITE, load } from "./puffgrit.mjs";
-import { bytesOf, treeAt } from "./tree.mjs";
-import { NAMES } from "./names.mjs";
+import { hexOf, spelled, visible } from "./spelling.mjs";
+import { treeAt } from "./tree.mjs";
 
-const here = new URL(".", import.meta.url);
-const calls = await load(readFileSync(new URL(process.argv[2], here)));
+const calls = await load(readFileSync(process.argv[2]));
+const bytesOf = (text) => spelled(text).bytes;
 
 // the item's length, and whether the bytes are canonical (RFC 8949, section 3; CTAP 2.1, section 8)
 const items = [
@@ -38,15 +38,18 @@ assert.equal(calls.member(map, 1, 99), null);
 assert.equal(calls.member(map, 0, 99), null);
 assert.equal(calls.itemAt(map, 15), null);
 assert.equal(calls.itemAt(map, 2 ** 53 - 1), null);
+assert.deepEqual(calls.itemsAt(map, 2, 3).map((it) => [it.from, it.end]), [[2, 4], [4, 7], [7, 9]]);
+assert.deepEqual(calls.itemsAt(map, 5, 9).map((it) => [it.from, it.end]), [[5, 6]]);
+assert.deepEqual(calls.itemsAt(map, 2, 0), []);
 assert.equal(calls.member(bytesOf("a1 3b7fffffffffffffff 05"), 0, -(2n ** 63n)).number, 5n);
 assert.equal(calls.itemLen(Buffer.from(map.subarray(1))), 15);
 
 // arguments of another type, and numbers that are out of range; a string that is no text of CBOR
 const keyed = bytesOf("a2 01 05 63 efbfbd 06");
-const withBytes = [calls.itemLen, calls.isCanonical, (it) => calls.itemAt(it, 0), (it) => calls.member(it, 0, 1), (it) => calls.member(it, 0, "a"), calls.authParts];
+const withBytes = [calls.itemLen, calls.isCanonical, (it) => calls.itemAt(it, 0), (it) => calls.itemsAt(it, 0, 1), (it) => calls.member(it, 0, 1), (it) => calls.member(it, 0, "a"), calls.authParts];
 const noBytes = ["a10105", [0xa1, 1, 5], keyed.buffer, new Uint16Array(3), new DataView(keyed.buffer), { length: 3 }, 3, null, undefined];
 withBytes.forEach((call) => noBytes.forEach((it) => assert.throws(() => call(it), TypeError)));
-const withOffset = [(it) => calls.itemAt(keyed, it), (it) => calls.member(keyed, it, 1), (it) => calls.member(keyed, it, "a")];
+const withOffset = [(it) => calls.itemAt(keyed, it), (it) => calls.itemsAt(keyed, it, 1), (it) => calls.itemsAt(keyed, 0, it), (it) => calls.member(keyed, it, 1), (it) => calls.member(keyed, it, "a")];
 for (const call of withOffset) {
   for (const offset of ["0", 0n, false, [], null, undefined]) assert.throws(() => call(offset), TypeError, String(offset));
   for (const offset of [-1, 0.5, NaN, Infinity, 2 ** 53, 2 ** 64]) assert.throws(() => call(offset), RangeError, String(offset));
@@ -76,54 +79,43 @@ assert.deepEqual(calls.authParts(registration), {
 });
 assert.equal(calls.authParts(registration.subarray(0, 61)), null);
 
-// the page's tree: names, texts, and where each part is
-const info = treeAt(calls, bytesOf("a2 01 81 68 4649444f5f325f30 05 19 04b0"), 0, NAMES.info);
-assert.deepEqual(
-  info.parts.map((it) => [it.label, it.text, it.from, it.end]),
-  [["versions (1)", "array of 1", 1, 12], ["maxMsgSize (5)", "1200", 12, 16]],
-);
-assert.deepEqual(info.parts[0].parts.map((it) => [it.label, it.text]), [["[0]", '"FIDO_2_0"']]);
-const response = new Uint8Array([0xa1, 0x02, 0x58, registration.length, ...registration]);
-const opened = treeAt(calls, response, 0, NAMES["mc-response"]).parts[0];
-assert.equal(opened.label, "authData (2)");
-assert.deepEqual(
-  opened.parts.map((it) => [it.label, it.from - 4, it.end - 4]),
-  [["rpIdHash", 0, 32], ["flags", 32, 33], ["signCount", 33, 37], ["aaguid", 37, 53], ["credentialId", 55, 57], ["credentialPublicKey", 57, 58], ["extensions", 58, 62]],
-);
-assert.equal(opened.parts[1].text, "UP AT ED");
-const diagnosed = [["f93c00", "1.0"], ["fb3ff199999999999a", "1.1"], ["f9c400", "-4.0"], ["f97e00", "NaN"], ["f5", "true"], ["f7", "undefined"], ["3863", "-100"], ["7f61616162ff", '"ab"'], ["4401020304", "h'01020304'"], ["c074", null]];
-for (const [hex, text] of diagnosed) assert.equal(treeAt(calls, bytesOf(hex), 0, null)?.text ?? null, text, hex);
+// JSON texts as they are written: members in their order, also repeated ones, numbers of any length and escapes
+const written = partsOf(' {"b":[1e400,"\\u202e\\"]",18446744073709551615],"1":null,"b":{"":[]}} ');
+assert.deepEqual(written.members.map(([name]) => name), ["b", "1", "b"]);
+assert.deepEqual(written.member("b").elements.map((it) => it.token), ["1e400", '"\\u202e\\"]"', "18446744073709551615"]);
+assert.deepEqual(written.members[2][1].members[0][1].elements, []);
+assert.equal(partsOf("\"a\"").plain, "a");
 
-// hexadecimal and base64
-assert.deepEqual(bytesOf("0xA1: 01 02\n"), new Uint8Array([0xa1, 1, 2]));
-assert.deepEqual(bytesOf("oQEC-_8="), new Uint8Array([0xa1, 1, 2, 0xfb, 0xff]));
-assert.equal(bytesOf("?"), null);
-// the page, over a stub of the document: what is pasted is shown, and each line lights its bytes
-class Stub {
-  constructor() {
-    Object.assign(this, { children: [], value: "", textContent: "", className: "", lit: new Set(), heard: {} });
-    this.classList = { toggle: (name, on) => this.lit[on ? "add" : "delete"](name) };
-  }
-  append(...children) { this.children.push(...children); }
-  replaceChildren(...children) { this.children = children; }
-  addEventListener(name, heard) { this.heard[name] = heard; }
-  all() { return [this, ...this.children.flatMap((it) => (it instanceof Stub ? it.all() : []))]; }
-}
-const shown = Object.fromEntries(["input", "kind", "bytes", "tree", "said"].map((it) => [it, new Stub()]));
-globalThis.document = { getElementById: (it) => shown[it], createElement: () => new Stub() };
-globalThis.Option = class extends Stub {};
-const script = readFileSync(new URL("inspector.html", here), "utf8").match(/<script type="module">(.*)<\/script>/s)[1];
-await new (async () => {}).constructor(script)();
-shown.kind.value = "info";
-shown.input.value = "a1 01 81 68 4649444f5f325f30 00";
-shown.input.heard.input();
-assert.equal(shown.said.textContent, "12 bytes, and 1 behind; not canonical");
-const labels = shown.tree.all().filter((it) => it.className === "label").map((it) => it.textContent);
-assert.deepEqual(labels, ["", "versions (1)", "[0]"]);
-const [, line] = shown.tree.all().filter((it) => it.className === "line");
-line.heard.mouseenter();
-assert.deepEqual(shown.bytes.children.map((it) => it.lit.has("lit")), [false, ...Array(11).fill(true), false]);
-shown.input.value = "81";
-shown.input.heard.input();
-assert.equal(shown.said.textContent, "no well-formed data item of at most 256 levels begins these bytes");
+// the page's tree: names, texts, and where each part is
+const shown = (it) => [...it.parts()].map(({ label, text, from, end }) => [label, text, from, end]);
+const info = treeAt(calls, bytesOf("a2 01 82 68 4649444f5f325f30 05 05 1904b0"), 0, partsOf('{"versions":["FIDO_2_0",5],"maxMsgSize":1200}'));
+assert.deepEqual(shown(info), [["versions", "array of 2", 1, 13], ["maxMsgSize", "1200", 13, 17]]);
+assert.deepEqual(shown([...info.parts()][0]), [["[0]", '"FIDO_2_0"', 3, 12], ["[1]", "5", 12, 13]]);
+const keyText = '{"rpIdHash":"ERE","flags":["UP","AT","ED"],"signCount":1,"aaguid":"22222222-2222-2222-2222-222222222222","credentialId":"q80","credentialPublicKey":{},"extensions":{"a":1}}';
+const response = new Uint8Array([0xa1, 0x02, 0x58, registration.length, ...registration]);
+const [opened] = treeAt(calls, response, 0, partsOf(`{"authData":${keyText}}`)).parts();
+assert.deepEqual(
+  shown(opened).map(([label, text, from, end]) => [label, text, from - 4, end - 4]),
+  [["rpIdHash", `32 bytes ${"11".repeat(32)}`, 0, 32], ["flags", "UP, AT, ED", 32, 33], ["signCount", "1", 33, 37],
+   ["aaguid", "22222222-2222-2222-2222-222222222222", 37, 53], ["credentialId", "2 bytes abcd", 55, 57], ["credentialPublicKey", "map of 0", 57, 58],
+   ["extensions", "map of 1", 58, 62]],
+);
+assert.deepEqual(shown([...opened.parts()][6]), [["a", "1", 63, 66]]);
+const leaves = [["26", "ES256", "ES256 (-7)"], ["f7", null, "undefined"], ["f97e00", "NaN", "NaN"], ["7f61616162ff", "ab", '"ab"'], ["5f4101420203ff", "AQID", "3 bytes 010203"],
+                ["50" + "22".repeat(16), "IiIiIiIiIiIiIiIiIiIiIg", `16 bytes ${"22".repeat(16)}`], ["c001", "0(1)", "0(1)"]];
+for (const [hex, value, text] of leaves) assert.equal(treeAt(calls, bytesOf(hex), 0, partsOf(JSON.stringify(value))).text, text, hex);
+const chunked = treeAt(calls, bytesOf("5f" + "5825" + hexOf(assertion) + "ff"), 0, partsOf('{"rpIdHash":"ERE","flags":["UP"],"signCount":258}'));
+assert.deepEqual([chunked.from, chunked.end, ...shown(chunked)[2]], [0, 41, "signCount", "258", null, null]);
+const many = treeAt(calls, new Uint8Array([0x99, 0x03, 0xe8, ...Array(1000).fill(1)]), 0, partsOf(`[${Array(1000).fill(1)}]`));
+assert.deepEqual(shown(many).at(-1), ["[999]", "1", 1002, 1003]);
+
+// hexadecimal, dumps by xxd and hexdump -C, base64 and JSON; characters that are invisible or turn others around
+const spellings = [
+  ["0xA1: 01,02\n", "hexadecimal", "a10102"], ["h'a101'", "hexadecimal", "a101"], ["oQEC-_8=", "base64", "a10102fbff"], ['"oQ",', "base64", "a1"], [' {"a":1}', "JSON", "207b2261223a317d"],
+  ["00000000: a163 6162 6301                           .cabc.\n00000006: 05       .\n", "hexadecimal", "a16361626301" + "05"],
+  ["00000000  a1 01 05 61  62                                   |...ab|\n00000005\n", "hexadecimal", "a101056162"],
+];
+for (const [text, form, hex] of spellings) assert.deepEqual([spelled(text).form, hexOf(spelled(text).bytes)], [form, hex], text);
+for (const text of ["?", "a1 0$", "00000000  a1 01  |..|\n*\n00000020\n"]) assert.equal(spelled(text), null, text);
+assert.equal(visible("a\u202e\u2066\u061c\u0007\u00adb\ud800é"), "a\\u{202e}\\u{2066}\\u{61c}\\u{7}\\u{ad}b\\u{d800}é");
 console.log("all as expected");

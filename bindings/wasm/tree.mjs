@@ -1,121 +1,133 @@
-// What is in bytes, as a tree: what the inspector page shows, without a page.
-import { ARRAY, BYTES, FLOAT, INDEFINITE, MAP, NEGATIVE, SIMPLE, TAG, TEXT, UNSIGNED } from "./puffgrit.mjs";
+// What is in bytes, as a tree: the JSON that proved code writes of them, beside the data items where they lie. The two have the same
+// elements and members in the same order.
+import { ARRAY, BYTES, INDEFINITE, MAP, NEGATIVE, SIMPLE, TAG, UNSIGNED } from "./puffgrit.mjs";
+import { hexOf, visible } from "./spelling.mjs";
 
-/** Reads hexadecimal with white space, colons or 0x, or base64 or base64url; null if it is neither. */
-export function bytesOf(text) {
-  const digits = text.replace(/0[xX]/g, "").replace(/[\s:]/g, "");
-  if (/^([0-9a-fA-F]{2})*$/.test(digits)) return Uint8Array.from(digits.match(/../g) ?? [], (it) => parseInt(it, 16));
-  const symbols = text.replace(/\s/g, "").replace(/-/g, "+").replace(/_/g, "/").replace(/=+$/, "");
-  if (!/^[A-Za-z0-9+/]*$/.test(symbols) || symbols.length % 4 === 1) return null;
-  return Uint8Array.from(atob(symbols), (it) => it.charCodeAt(0));
+// So many items are looked at in one go.
+const BATCH = 256;
+// Of a longer byte string only the first bytes are written out.
+const SHOWN = 256;
+
+/** A node: what is at these bytes, `count` parts inside, which `parts` yields, and the JSON that it is made of. Without a place, its bytes
+ * aren't in the input as they are. */
+function nodeOf(label, text, place, json, parts = null, count = 0) {
+  return { label: visible(label), text: visible(text), from: place?.from ?? null, end: place?.end ?? null, json, parts, count };
 }
 
-export const hexOf = (bytes) => Array.from(bytes, (it) => it.toString(16).padStart(2, "0")).join("");
+const bytesText = (bytes) => {
+  const noun = bytes.length === 1 ? "byte" : "bytes", more = bytes.length > SHOWN ? ".." : "";
+  return `${bytes.length} ${noun} ${hexOf(bytes.subarray(0, SHOWN))}${more}`;
+};
 
 /** The content of a string, its chunks joined. */
-function contentOf(calls, bytes, item) {
+function contentOf(puffgrit, bytes, item) {
   if (item.number !== INDEFINITE) return bytes.subarray(item.content, item.end);
-  const content = [];
+  const chunks = [...itemsInside(puffgrit, bytes, item)].map((it) => bytes.subarray(it.content, it.end));
+  const joined = new Uint8Array(chunks.reduce((sum, it) => sum + it.length, 0));
+  chunks.reduce((place, it) => (joined.set(it, place), place + it.length), 0);
+  return joined;
+}
+
+/** The items inside an item, one after the other: elements, keys and values, chunks, or a tag's content. */
+function* itemsInside(puffgrit, bytes, item) {
   let place = item.content;
-  while (bytes[place] !== 0xff) {
-    const chunk = calls.itemAt(bytes, place);
-    content.push(...bytes.subarray(chunk.content, chunk.end));
-    place = chunk.end;
+  while (place < item.end) {
+    const batch = puffgrit.itemsAt(bytes.subarray(0, item.end), place, BATCH);
+    if (batch.length === 0) return; // the break
+    yield* batch;
+    place = batch.at(-1).end;
   }
-  return Uint8Array.from(content);
 }
 
-function floatOf(item) {
-  const bits = new DataView(new ArrayBuffer(8));
-  const len = item.end - item.from - 1;
-  if (len === 8) {
-    bits.setBigUint64(0, item.number);
-    return bits.getFloat64(0);
-  }
-  if (len === 4) {
-    bits.setUint32(0, Number(item.number));
-    return bits.getFloat32(0);
-  }
-  // RFC 8949, appendix D
-  const half = Number(item.number), exponent = (half >> 10) & 31, fraction = half & 1023;
-  const size = exponent === 0 ? fraction * 2 ** -24 : exponent < 31 ? (1024 + fraction) * 2 ** (exponent - 25) : fraction ? NaN : Infinity;
-  return half & 0x8000 ? -size : size;
+/** What an integer says, with its name if the JSON has one. */
+function integerText(item, json) {
+  const number = String(item.kind === UNSIGNED ? item.number : -1n - item.number);
+  return json.plain === number ? number : `${json.plain} (${number})`;
 }
 
-/** What an item without items inside says, in diagnostic notation (RFC 8949, section 8). */
-function leafText(calls, bytes, item) {
-  switch (item.kind) {
-    case UNSIGNED:
-      return String(item.number);
-    case NEGATIVE:
-      return String(-1n - item.number);
-    case BYTES:
-      return `h'${hexOf(contentOf(calls, bytes, item))}'`;
-    case TEXT:
-      return JSON.stringify(new TextDecoder().decode(contentOf(calls, bytes, item)));
-    case FLOAT: {
-      const float = floatOf(item);
-      return Number.isInteger(float) ? `${Object.is(float, -0) ? "-0" : float}.0` : String(float);
+const isUuid = (json) => /^"[0-9a-f]{8}-[0-9a-f]{4}-[0-9a-f]{4}-[0-9a-f]{4}-[0-9a-f]{12}"$/.test(json.token);
+
+/** What an item says that isn't divided. */
+function leafText(puffgrit, bytes, item, json) {
+  if (item.kind === UNSIGNED || item.kind === NEGATIVE) return integerText(item, json);
+  if (item.kind === SIMPLE && item.number === 23n) return "undefined";
+  if (item.kind !== BYTES) return item.kind === TAG || item.kind >= SIMPLE ? json.plain : json.token;
+  const content = contentOf(puffgrit, bytes, item);
+  return content.length === 16 && isUuid(json) ? json.plain : bytesText(content);
+}
+
+/** The parts of authenticator data, which begin at an offset of the input, or at none (WebAuthn Level 3, section 6.1). */
+function* dataNodes(puffgrit, data, base, json) {
+  const found = puffgrit.authParts(data);
+  const at = (from, end) => (base === null ? null : { from: base + from, end: base + end });
+  const moved = (node) => {
+    const place = node.from === null || base === null ? { from: null, end: null } : { from: base + node.from, end: base + node.end };
+    const { parts } = node;
+    return { ...node, ...place, parts: parts && function* () { for (const it of parts()) yield moved(it); } };
+  };
+  const id = [found.credentialId, found.credentialId + found.credentialIdLen];
+  const places = { rpIdHash: [0, 32], flags: [32, 33], signCount: [33, 37], aaguid: [found.aaguid, found.aaguid + 16], credentialId: id };
+  const items = { credentialPublicKey: found.publicKey, extensions: found.extensions };
+  for (const [name, part] of json.members) {
+    if (items[name]) {
+      yield moved({ ...treeAt(puffgrit, data, items[name], part), label: name });
+    } else if (part.elements) {
+      yield nodeOf(name, part.elements.map((it) => it.plain).join(", "), at(...places[name]), part);
+    } else {
+      const isPlain = !part.isString || isUuid(part);
+      yield nodeOf(name, isPlain ? part.plain : bytesText(data.subarray(...places[name])), at(...places[name]), part);
     }
-    default:
-      return { 20: "false", 21: "true", 22: "null", 23: "undefined" }[item.number] ?? `simple(${item.number})`;
   }
 }
 
-/** The offsets of the items inside, one after the other: of elements, of keys and values, or of a tag's content. */
-function* inside(calls, bytes, item) {
-  const pairs = item.kind === MAP ? 2n : 1n;
-  const left = item.number === INDEFINITE ? null : item.kind === TAG ? 1n : item.number * pairs;
-  let place = item.content;
-  for (let k = 0n; left === null ? bytes[place] !== 0xff : k < left; k++) {
-    const part = calls.itemAt(bytes, place);
-    yield part;
-    place = part.end;
+/** Authenticator data as a node. */
+export function dataNode(puffgrit, data, base, json, label = "", place = { from: base, end: base + data.length }) {
+  return nodeOf(label, "authenticator data", place, json, () => dataNodes(puffgrit, data, base, json), json.members.length);
+}
+
+function* elementNodes(puffgrit, bytes, item, json) {
+  let count = 0;
+  for (const inner of itemsInside(puffgrit, bytes, item)) yield labelled(puffgrit, bytes, inner, json.elements[count], `[${count++}]`);
+}
+
+function* memberNodes(puffgrit, bytes, item, json) {
+  const items = itemsInside(puffgrit, bytes, item);
+  for (const [name, part] of json.members) {
+    const key = items.next().value, value = items.next().value;
+    yield { ...labelled(puffgrit, bytes, value, part, name), from: key.from };
   }
 }
 
-/** Authenticator data, part by part (WebAuthn Level 3, section 6.1), as far as the bytes are such. */
-function dataParts(calls, bytes, item) {
-  if (item.kind !== BYTES || item.number === INDEFINITE) return [];
-  const data = bytes.subarray(item.content, item.end), parts = calls.authParts(data);
-  if (parts === null || parts.end !== data.length) return [];
-  const at = item.content;
-  const part = (label, from, end, text) => ({ label, from: at + from, content: at + from, end: at + end, text, parts: [] });
-  const whole = (label, from) => ({ ...treeAt(calls, bytes, at + from, null), label });
-  const names = [[1, "UP"], [4, "UV"], [8, "BE"], [16, "BS"], [64, "AT"], [128, "ED"]];
-  const flags = names.filter(([bit]) => parts.flags & bit).map(([, name]) => name).join(" ");
-  const found = [part("rpIdHash", 0, 32, hexOf(data.subarray(0, 32))), part("flags", 32, 33, flags), part("signCount", 33, 37, String(parts.counter))];
-  if (parts.aaguid) {
-    found.push(part("aaguid", parts.aaguid, parts.aaguid + 16, hexOf(data.subarray(parts.aaguid, parts.aaguid + 16))));
-    const end = parts.credentialId + parts.credentialIdLen;
-    found.push(part("credentialId", parts.credentialId, end, hexOf(data.subarray(parts.credentialId, end))));
-    found.push(whole("credentialPublicKey", parts.publicKey));
+function labelled(puffgrit, bytes, item, json, label) {
+  if (item.kind === ARRAY && json.elements) {
+    return nodeOf(label, `array of ${json.elements.length}`, item, json, () => elementNodes(puffgrit, bytes, item, json), json.elements.length);
   }
-  if (parts.extensions) found.push(whole("extensions", parts.extensions));
-  return found;
+  if (item.kind === MAP && json.members) {
+    return nodeOf(label, `map of ${json.members.length}`, item, json, () => memberNodes(puffgrit, bytes, item, json), json.members.length);
+  }
+  if (item.kind === BYTES && json.members) {
+    const isWhole = item.number !== INDEFINITE;
+    return dataNode(puffgrit, contentOf(puffgrit, bytes, item), isWhole ? item.content : null, json, label, item);
+  }
+  return nodeOf(label, leafText(puffgrit, bytes, item, json), item, json);
 }
 
-/** The item at an offset and the items inside, with the names of a message's members; null if none is there. */
-export function treeAt(calls, bytes, offset, names) {
-  const item = calls.itemAt(bytes, offset);
-  if (item === null) return null;
-  const node = { label: "", from: item.from, content: item.content, end: item.end, text: "", parts: [] };
-  if (item.kind < ARRAY || item.kind > TAG) {
-    return { ...node, text: leafText(calls, bytes, item), parts: dataParts(calls, bytes, item) };
+/** The data item at an offset and what is inside, with the JSON of it. */
+export function treeAt(puffgrit, bytes, offset, json) {
+  return labelled(puffgrit, bytes, puffgrit.itemAt(bytes, offset), json, "");
+}
+
+/** A JSON text as a tree. `inside` gives a node for what is inside a member that is a string, or null. */
+export function jsonTree(json, inside, label = "") {
+  const { elements, members } = json;
+  if (elements) {
+    const parts = () => elements.map((it, k) => jsonTree(it, inside, `[${k}]`));
+    return nodeOf(label, `array of ${elements.length}`, null, json, parts, elements.length);
   }
-  let key = null, count = 0;
-  for (const part of inside(calls, bytes, item)) {
-    if (item.kind === MAP && key === null) {
-      key = part;
-      continue;
-    }
-    const named = key && key.kind === UNSIGNED ? names?.[key.number] : undefined;
-    const spelled = key && (key.kind < ARRAY || key.kind > TAG ? leafText(calls, bytes, key) : "..");
-    const label = key ? (named ? `${named} (${spelled})` : spelled) : item.kind === TAG ? "content" : `[${count++}]`;
-    node.parts.push({ ...treeAt(calls, bytes, part.from, null), label, from: (key ?? part).from });
-    key = null;
+  if (members) {
+    const parts = () => members.map(([name, it]) => jsonTree(it, inside, name));
+    return nodeOf(label, `object of ${members.length}`, null, json, parts, members.length);
   }
-  const sizes = { [ARRAY]: "array", [MAP]: "map" };
-  node.text = item.kind === TAG ? `tag ${item.number}` : `${sizes[item.kind]} of ${node.parts.length}`;
-  return node;
+  const inner = json.isString ? inside(label, json.plain) : null;
+  return nodeOf(label, json.token, null, json, inner && (() => [inner]), inner ? 1 : 0);
 }
