@@ -1,7 +1,7 @@
 //! Why JSON texts are refused, for C.
-ghost use Rattle.std.specs.Prelude.{◌≡◌, IfOk};
+ghost use Rattle.std.specs.Prelude.{◌≡◌, IfOk, IfSome, string_bytes};
 ghost use Rattle.passkey_c.specs.Explaining.{IsVerdict};
-ghost use Rattle.passkey_c.specs.ExplainingJson.{AcceptsJson, TellsJson, whole};
+ghost use Rattle.passkey_c.specs.ExplainingJson.{AcceptsJson, TellsJson, refused_text, whole};
 ghost use Rattle.passkey_json.specs.JsonText.{IsJson};
 ghost use Rattle.serde_json.specs.View.{view};
 
@@ -14,7 +14,10 @@ use serde_json::Value;
 use std::alloc::Global;
 
 /// Returns the text about a JSON value that is refused: what in it is to blame, or else the fault.
-fn json_text(alloc: Global, refused: &RefusedJson) -> Result<String, OutOfMemory> {
+fn json_text(alloc: Global, refused: &RefusedJson) -> Result<String, OutOfMemory>
+    ensures { IfOk result
+        (λ text. IfSome (refused_text refused.now) (λ told. string_bytes text ≡ told)) }
+{
     let fault = refused.fault;
     match &refused.blame {
         Some(blame) => Ok(format!(in alloc; "{blame}")?),
