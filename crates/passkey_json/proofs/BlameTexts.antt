@@ -1,5 +1,5 @@
 -- Steps that are written one after the other.
-use Rattle.std.proofs.Common.{◌≡◌, ◌∙◌, ℕ, ◌+◌, ◌<◌, List, [], ◌∷◌, ◌++◌, length, take, get_or, Option, Some, None, IfSome, Result, IsOk, refl, ap, sym, subst, add-one, append-nil, take-suc}
+use Rattle.std.proofs.Common.{◌≡◌, ◌∙◌, ℕ, ◌+◌, ◌<◌, List, [], ◌∷◌, ◌++◌, length, take, get_or, Option, Some, None, IfSome, Result, IsOk, refl, ap, sym, add-one, append-nil, take-suc}
 use Rattle.std.proofs.Output.{has_written_append, then_text_assoc}
 use Rattle.std.specs.Prelude.{false}
 use Rattle.std.specs.Fmt.{◌++?◌, DisplaysOnOk, HasWritten, IsPlainFormatter}

@@ -7,14 +7,13 @@ use Rattle.passkey_json.specs.Along.{accepted_shape, tolerant_shape}
 use Rattle.passkey_json.specs.Blame.{Blames, BlamesPart, IsBlamed, fault_reason, path_of, reason_of, step_of, wanted}
 use Rattle.passkey_json.specs.Fault.{Fault}
 use Rattle.passkey_json.specs.Kind.{Kind}
-use Rattle.passkey_json.specs.Shape.{Entry, Part, Rows, Shape, Step, Tested, decoded_as, entries_in, entry_at, entry_named, entry_of, faulty_row, first_element, named, part, present_in, record_of, row_at, row_in, within}
+use Rattle.passkey_json.specs.Shape.{Entry, Part, Shape, Step, Tested, decoded_as, entries_in, entry_at, entry_named, entry_of, faulty_row, first_element, named, part, present_in, row_at, row_in, within}
 use Rattle.passkey_json.specs.Members.{in_object}
 use Rattle.passkey_json.specs.Table.{JsonMember, PlainTable, entries, members_in, rows_in, shape_from, table_shape}
 use Rattle.passkey_json.specs.declared.blame.JsonBlame.{JsonBlame}
 use Rattle.passkey_json.specs.declared.blame.JsonReason.{JsonReason}
 use Rattle.passkey_json.specs.declared.blame.JsonReason.TheVariants as reason
 use Rattle.passkey_json.specs.declared.blame.JsonStep.{JsonStep}
-use Rattle.passkey_json.specs.declared.blame.JsonStep.TheVariants as code
 use Rattle.passkey_json.specs.declared.row.Row.{Row}
 use Rattle.passkey_json.specs.declared.wanted.WantedJson.TheVariants as want
 use Rattle.passkey_memory.specs.declared.OutOfMemory.{OutOfMemory as NoMemory}

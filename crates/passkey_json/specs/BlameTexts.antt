@@ -1,5 +1,5 @@
--- What is printed of what in a JSON value is to blame. Where a member of an object that is no record has a name that isn't ASCII,
--- nothing is said.
+-- What is printed of what in a JSON value is to blame, and of what is left out of it. Where a member of an object that is no
+-- record has a name that isn't ASCII, nothing is said.
 use Rattle.std.specs.Prelude.{ℕ, Bool, true, false, List, [], ◌∷◌, ◌++◌, Option, Some, codes}
 use Rattle.std.specs.Fmt.{◌++?◌, debug_str, decimal}
 use Rattle.passkey_json.specs.Wanted.{wanted_text}
@@ -8,6 +8,7 @@ use Rattle.passkey_json.specs.declared.blame.JsonReason.{JsonReason}
 use Rattle.passkey_json.specs.declared.blame.JsonReason.TheVariants as reason
 use Rattle.passkey_json.specs.declared.blame.JsonStep.{JsonStep}
 use Rattle.passkey_json.specs.declared.blame.JsonStep.TheVariants as step
+use Rattle.passkey_json.specs.declared.dropped.DroppedValue.{DroppedValue}
 
 -- between a step and the member after it
 abbrev pub dot : Bool → List ℕ
@@ -41,3 +42,12 @@ reason_text (reason.Repeated name) = name.now ++ codes " is present under both o
 
 abbrev pub blame_text : JsonBlame → Option (List ℕ)
 blame_text b = path_before b.path.items ++? Some (reason_text b.reason)
+
+-- where in a value that is left out the refused one is
+abbrev pub path_within : List JsonStep → Option (List ℕ)
+path_within [] = Some []
+path_within ss = Some (codes "at ") ++? path_text ss ++? Some (codes " ")
+
+abbrev pub dropped_text : DroppedValue → Option (List ℕ)
+dropped_text d =
+    path_text d.path.items ++? Some (codes ": ") ++? path_within d.blame.path.items ++? Some (reason_text d.blame.reason)

@@ -1,6 +1,8 @@
 //! What is left out of a JSON value where any value is tolerated.
+ghost use Rattle.std.specs.Fmt.{DisplaysOnOk};
 ghost use Rattle.std.specs.Prelude.{◌≡◌, IfOk, List, OnOk, map};
 ghost use Rattle.passkey_json.specs.Blame.{step_of};
+ghost use Rattle.passkey_json.specs.BlameTexts.{dropped_text, path_within};
 ghost use Rattle.passkey_json.specs.Dropped.{Adds, AreDropped, LeftOut, told, under};
 ghost use Rattle.passkey_json.specs.Dropped as spec;
 ghost use Rattle.serde_json.specs.View.{view};
@@ -22,15 +24,25 @@ pub struct DroppedValue {
     pub blame: JsonBlame,
 }
 
+/// Writes where in a value that is left out the refused one is, if it isn't the former itself.
+fn write_path_within<W: fmt::Write>(f: &mut fmt::Formatter<W>, path: &[JsonStep]) -> fmt::Result
+    ensures { DisplaysOnOk W.write_str_gives f.old result (path_within path.now) f.new }
+{
+    if path.is_empty() {
+        return Ok(());
+    }
+    f.write_str("at ")?;
+    write_path(f, path)?;
+    f.write_str(" ")
+}
+
 impl fmt::Display for DroppedValue {
+    ghost output = { dropped_text };
+
     fn fmt<W: fmt::Write>(&self, f: &mut fmt::Formatter<W>) -> fmt::Result {
         write_path(f, self.path.as_slice())?;
         f.write_str(": ")?;
-        if !self.blame.path.is_empty() {
-            f.write_str("at ")?;
-            write_path(f, self.blame.path.as_slice())?;
-            f.write_str(" ")?;
-        }
+        write_path_within(f, self.blame.path.as_slice())?;
         write!(f, "{}", self.blame.reason)
     }
 }
