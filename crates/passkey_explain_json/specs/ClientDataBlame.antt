@@ -15,7 +15,7 @@ use Rattle.passkey_json.specs.Blame.{Blames, path_of, reason_of, wanted}
 use Rattle.passkey_json.specs.declared.blame.JsonBlame.{JsonBlame}
 use Rattle.passkey_explain_json.specs.declared.explanation.JsonExplanation.{JsonExplanation}
 
--- client data of which the caller knows no further member
+-- client data of which the caller knows no other member
 abbrev pub none_known : List ℕ → Bool
 none_known name = false
 

@@ -1,6 +1,6 @@
-//! Where JSON values are refused, and why.
+//! Where JSON values are refused, and why, and what is left out of them.
 use crate::json::parsed;
-use passkey_explain_json::{JsonExplanation, explain_client_data, explain_json};
+use passkey_explain_json::{JsonExplanation, dropped_json, explain_client_data, explain_json};
 use passkey_json::PlainJsonRecord;
 use passkey_webauthn_json::credentials::CreatedPublicKeyCredential;
 use passkey_webauthn_json::options::{CredentialCreationOptions, CredentialRequestOptions};
@@ -88,6 +88,28 @@ fn other_records_are_explained(rt: HostRuntime) {
             "response": {"clientDataJSON": "AA", "authenticatorData": "AA", "publicKeyAlgorithm": -7,
             "attestationObject": "AA", "transports": ["usb", 7]}}"#,
         "Refused(\"response\"): response.transports[1]: a name that the standard lists is wanted",
+    );
+}
+
+#[test]
+fn dropped_values_are_listed(rt: HostRuntime) {
+    let options = r#"{"publicKey": {"challenge": "AA", "hints": ["hybrid", "x", 1],
+        "allowCredentials": [{"type": "public-key", "id": "AA", "transports": ["usb", "x"]}, {"id": "AA"}]}}"#;
+    let value = parsed(&rt, options);
+    let dropped = dropped_json::<CredentialRequestOptions>(rt.alloc(), &value).expect(
+        &rt, "memory",
+    );
+    let mut text = String::new(rt.alloc());
+    for item in &dropped {
+        let line = format!(in rt.alloc(); "{item}\n").expect(&rt, "memory");
+        text.push_str(line.as_str()).expect(&rt, "memory");
+    }
+    assert_eq!(rt;
+        text.as_str(),
+        "publicKey.allowCredentials[0].transports[1]: a name that the standard lists is wanted\n\
+         publicKey.allowCredentials[1]: type is missing\n\
+         publicKey.hints[1]: a name that the standard lists is wanted\n\
+         publicKey.hints[2]: a name that the standard lists is wanted\n"
     );
 }
 
