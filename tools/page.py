@@ -65,7 +65,8 @@ def members(messages):
 
 def lists(messages):
     """What the page takes from the sources, as a script; `messages` are those of tools/header."""
-    made = {"found": found("FOUND_KINDS"), "foundJson": found("FOUND_JSON_KINDS"), "statuses": statuses(), "commands": commands(), "members": members(messages)}
+    made = {"found": found("FOUND_KINDS"), "foundJson": found("FOUND_JSON_KINDS"), "statuses": statuses(), "commands": commands()}
+    made["members"] = members(messages)
     made["ofJson"] = [it for it in kinds.numbers() if it not in kinds.of_bytes()]
     lacking = [name for name, it in made.items() if not it] + [it for it, names in made["members"].items() if not names]
     if lacking:
@@ -89,6 +90,7 @@ def hash_of(text):
 def write(module, messages):
     """The page: it runs this script and no other, and takes nothing from elsewhere."""
     parts = {"SCRIPT": script(module, messages), "STYLE": (SOURCES / "page.css").read_text(encoding="utf-8"), "VERSION": docs.version()}
-    parts["POLICY"] = f"default-src 'none'; script-src {hash_of(parts['SCRIPT'])} 'wasm-unsafe-eval'; style-src {hash_of(parts['STYLE'])}; base-uri 'none'; form-action 'none'"
+    policy = ["default-src 'none'", f"script-src {hash_of(parts['SCRIPT'])} 'wasm-unsafe-eval'", f"style-src {hash_of(parts['STYLE'])}"]
+    parts["POLICY"] = "; ".join([*policy, "base-uri 'none'", "form-action 'none'"])
     page = (SOURCES / "page.html").read_text(encoding="utf-8")
     return re.sub(r"@([A-Z]+)@", lambda it: parts[it[1]], page)

@@ -165,8 +165,8 @@ def environment(folder, modules, flags=()):
     """The Python of an environment of its own that has pip and these modules; None where there is none."""
     made = subprocess.run([sys.executable, "-m", "venv", *flags, folder / "venv"], capture_output=True, check=False)
     python = folder / "venv" / "bin" / "python"
-    is_there = made.returncode == 0 and subprocess.run([python, "-c", f"import {', '.join(modules)}"], capture_output=True, check=False).returncode == 0
-    return python if is_there else None
+    words = [python, "-c", f"import {', '.join(modules)}"]
+    return python if made.returncode == 0 and subprocess.run(words, capture_output=True, check=False).returncode == 0 else None
 
 
 INSTALL = ["-m", "pip", "install", "--quiet", "--no-index", "--no-build-isolation"]

@@ -429,8 +429,14 @@ class Function:
         for bits, name in OF_BITS.items():
             found = [self.local(k) for k, it in enumerate(self.types) if k >= first and BITS[it] == bits and re.search(rf"\bv{k}\b", body)]
             lines += textwrap.wrap(f"{name} " + ", ".join(f"{it} = 0" for it in found) + ";", WIDE, initial_indent="    ", subsequent_indent="        ") if found else []
-        lines += [f"    (void)a{k};" for k in range(first) if not re.search(rf"\ba{k}\b", body)]
+        lines += [f"    (void){self.local(k)};" for k in range(len(self.types)) if self.is_unread(k, body)]
         return "\n".join([*lines, body, "}"])
+
+    def is_unread(self, k, body):
+        """Whether a parameter isn't used, or a local is set and never read: compilers warn of both."""
+        name = self.local(k)
+        uses, settings = re.findall(rf"\b{name}\b", body), re.findall(rf"^ *{name} = ", body, re.MULTILINE)
+        return not uses if k < len(self.signature.parameters) else len(uses) == len(settings) > 0
 
 
 def head(module, number, names, is_named):

@@ -91,9 +91,10 @@ const shown = (it) => [...it.parts()].map(({ label, text, from, end }) => [label
 const info = treeAt(calls, bytesOf("a2 01 82 68 4649444f5f325f30 05 05 1904b0"), 0, partsOf('{"versions":["FIDO_2_0",5],"maxMsgSize":1200}'));
 assert.deepEqual(shown(info), [["versions", "array of 2", 1, 13], ["maxMsgSize", "1200", 13, 17]]);
 assert.deepEqual(shown([...info.parts()][0]), [["[0]", '"FIDO_2_0"', 3, 12], ["[1]", "5", 12, 13]]);
-const keyText = '{"rpIdHash":"ERE","flags":["UP","AT","ED"],"signCount":1,"aaguid":"22222222-2222-2222-2222-222222222222","credentialId":"q80","credentialPublicKey":{},"extensions":{"a":1}}';
+const dataText = `{"rpIdHash":"ERE","flags":["UP","AT","ED"],"signCount":1,"aaguid":"22222222-2222-2222-2222-222222222222","credentialId":"q80",
+  "credentialPublicKey":{},"extensions":{"a":1}}`;
 const response = new Uint8Array([0xa1, 0x02, 0x58, registration.length, ...registration]);
-const [opened] = treeAt(calls, response, 0, partsOf(`{"authData":${keyText}}`)).parts();
+const [opened] = treeAt(calls, response, 0, partsOf(`{"authData":${dataText}}`)).parts();
 assert.deepEqual(
   shown(opened).map(([label, text, from, end]) => [label, text, from - 4, end - 4]),
   [["rpIdHash", `32 bytes ${"11".repeat(32)}`, 0, 32], ["flags", "UP, AT, ED", 32, 33], ["signCount", "1", 33, 37],
@@ -101,8 +102,10 @@ assert.deepEqual(
    ["extensions", "map of 1", 58, 62]],
 );
 assert.deepEqual(shown([...opened.parts()][6]), [["a", "1", 63, 66]]);
-const leaves = [["26", "ES256", "ES256 (-7)"], ["f7", null, "undefined"], ["f97e00", "NaN", "NaN"], ["7f61616162ff", "ab", '"ab"'], ["5f4101420203ff", "AQID", "3 bytes 010203"],
-                ["50" + "22".repeat(16), "IiIiIiIiIiIiIiIiIiIiIg", `16 bytes ${"22".repeat(16)}`], ["c001", "0(1)", "0(1)"]];
+const leaves = [
+  ["26", "ES256", "ES256 (-7)"], ["f7", null, "undefined"], ["f97e00", "NaN", "NaN"], ["7f61616162ff", "ab", '"ab"'], ["c001", "0(1)", "0(1)"],
+  ["5f4101420203ff", "AQID", "3 bytes 010203"], ["50" + "22".repeat(16), "IiIiIiIiIiIiIiIiIiIiIg", `16 bytes ${"22".repeat(16)}`],
+];
 for (const [hex, value, text] of leaves) assert.equal(treeAt(calls, bytesOf(hex), 0, partsOf(JSON.stringify(value))).text, text, hex);
 const chunked = treeAt(calls, bytesOf("5f" + "5825" + hexOf(assertion) + "ff"), 0, partsOf('{"rpIdHash":"ERE","flags":["UP"],"signCount":258}'));
 assert.deepEqual([chunked.from, chunked.end, ...shown(chunked)[2]], [0, 41, "signCount", "258", null, null]);
@@ -111,7 +114,8 @@ assert.deepEqual(shown(many).at(-1), ["[999]", "1", 1002, 1003]);
 
 // hexadecimal, dumps by xxd and hexdump -C, base64 and JSON; characters that are invisible or turn others around
 const spellings = [
-  ["0xA1: 01,02\n", "hexadecimal", "a10102"], ["h'a101'", "hexadecimal", "a101"], ["oQEC-_8=", "base64", "a10102fbff"], ['"oQ",', "base64", "a1"], [' {"a":1}', "JSON", "207b2261223a317d"],
+  ["0xA1: 01,02\n", "hexadecimal", "a10102"], ["h'a101'", "hexadecimal", "a101"], ["oQEC-_8=", "base64", "a10102fbff"], ['"oQ",', "base64", "a1"],
+  [' {"a":1}', "JSON", "207b2261223a317d"],
   ["00000000: a163 6162 6301                           .cabc.\n00000006: 05       .\n", "hexadecimal", "a16361626301" + "05"],
   ["00000000  a1 01 05 61  62                                   |...ab|\n00000005\n", "hexadecimal", "a101056162"],
 ];
