@@ -7,18 +7,17 @@ use Rattle.passkey_json.specs.Along.{accepted_shape, tolerant_shape}
 use Rattle.passkey_json.specs.Blame.{Blames, BlamesPart, IsBlamed, fault_reason, path_of, reason_of, step_of, wanted}
 use Rattle.passkey_json.specs.Fault.{Fault}
 use Rattle.passkey_json.specs.Kind.{Kind}
-use Rattle.passkey_json.specs.Shape.{Entry, Part, Rows, Shape, Step, Tested, decoded_as, entries_in, entry_at, entry_named, entry_of, faulty_row, first_element, named, part, present_in, record_of, row_at, row_in, within}
+use Rattle.passkey_json.specs.Shape.{Entry, Part, Shape, Step, Tested, decoded_as, entries_in, entry_at, entry_named, entry_of, faulty_row, first_element, named, part, present_in, row_at, row_in, within}
 use Rattle.passkey_json.specs.Members.{in_object}
 use Rattle.passkey_json.specs.Table.{JsonMember, PlainTable, entries, members_in, rows_in, shape_from, table_shape}
 use Rattle.passkey_json.specs.declared.blame.JsonBlame.{JsonBlame}
 use Rattle.passkey_json.specs.declared.blame.JsonReason.{JsonReason}
 use Rattle.passkey_json.specs.declared.blame.JsonReason.TheVariants as reason
 use Rattle.passkey_json.specs.declared.blame.JsonStep.{JsonStep}
-use Rattle.passkey_json.specs.declared.blame.JsonStep.TheVariants as code
 use Rattle.passkey_json.specs.declared.row.Row.{Row}
 use Rattle.passkey_json.specs.declared.wanted.WantedJson.TheVariants as want
 use Rattle.passkey_memory.specs.declared.OutOfMemory.{OutOfMemory as NoMemory}
-use Rattle.serde_json.specs.Data.{Data, null, boolean, number, string, array, object, Items, no_items, item}
+use Rattle.serde_json.specs.Data.{Data, array, Items, no_items, item}
 
 -- the blame of a part, as seen from the whole
 abbrev IsUnder : JsonStep → JsonBlame → JsonBlame → Type 0
@@ -41,11 +40,7 @@ none_refused s n (item d ds) = none_refused s (suc n) ds
 
 none_within : {A : Type 0} (kind : Kind A) (s : Shape) (d : Data) → within (accepted_shape kind s) d ≡ None
 none_within kind s (array ds) = none_refused (tolerant_shape kind s) 0 ds
-none_within kind s null = refl
-none_within kind s (boolean b) = refl
-none_within kind s (number n) = refl
-none_within kind s (string t) = refl
-none_within kind s (object ms) = refl
+none_within kind s _ = refl
 
 pub accepted_blames : {A : Type 0} (kind : Kind A) (s : Shape) (d : Data) (b : JsonBlame) → path_of b ≡ []
     → b.reason ≡ reason.Wanted want.Array → Blames (accepted_shape kind s) d b

@@ -1,11 +1,10 @@
 -- What is left out, part by part.
-use Rattle.std.proofs.Common.{◌≡◌, ◌∙◌, ◌+◌, ◌≤◌, ℕ, add-one, length, drop, List, [], ◌∷◌, ◌++◌, map, append-nil, append_assoc, Option, Some, None, Result, Ok, Err, OnOk, Bor, refl, sym, ap, subst}
-use Rattle.std.specs.Prelude.{IfSome, option_map}
+use Rattle.std.proofs.Common.{◌≡◌, ◌+◌, ◌≤◌, ℕ, add-one, length, drop, List, [], ◌∷◌, ◌++◌, map, append-nil, append_assoc, Option, Some, refl, sym, ap, subst}
+use Rattle.std.specs.Prelude.{IfSome}
 use Rattle.passkey_json.specs.Dropped.{Adds, AreDropped, LeftOut, Leaving, Told, dropped, dropped_elements, dropped_present, dropped_rows, told, told_under, under}
-use Rattle.passkey_json.specs.Shape.{Entry, Shape, Step, element, named, present_in}
+use Rattle.passkey_json.specs.Shape.{Entry, Shape, Step, element, present_in}
 use Rattle.passkey_json.specs.Table.{JsonMember, rows_in, shape_from}
 use Rattle.passkey_json.specs.declared.dropped.DroppedValue.{DroppedValue}
-use Rattle.passkey_memory.specs.declared.OutOfMemory.{OutOfMemory as NoMemory}
 use Rattle.serde_json.specs.Data.{Data, Items, item}
 use Rattle.serde_json.specs.View.{items_view}
 use Rattle.serde_json.specs.declared.value.Value.{Value}
@@ -42,13 +41,6 @@ pub all_listed : (all left : List LeftOut) (seen : List DroppedValue) → left �
     → AreDropped all (map told seen)
 all_listed all left seen none lists =
     subst (λ (ts : List Told). AreDropped all ts) (append-nil (map told seen)) (lists [] (rw none tt))
-
-pub none_listed : (all : List LeftOut) (seen : List DroppedValue) → seen ≡ [] → Lists all all seen
-none_listed all seen none = rw none (λ rest h. h)
-
-pub absent_adds : (of : Leaving) (o : Option (List ℕ × Data)) (vs : List DroppedValue) → None ≡ o
-    → Adds (dropped_present of o) vs vs
-absent_adds of o vs none = subst (λ p. Adds (dropped_present of p) vs vs) none ([], (tt, sym (append-nil (map told vs))))
 
 -- ---- elements, members and rows
 

@@ -1,5 +1,5 @@
 -- What is left out of a JSON value where any value is tolerated: where, and what in it is to blame.
-use Rattle.std.specs.Prelude.{◌≡◌, ℕ, suc, Bool, if◌then◌else◌, List, [], ◌∷◌, ◌++◌, map, Option, Some, None}
+use Rattle.std.specs.Prelude.{◌≡◌, ℕ, suc, if◌then◌else◌, List, [], ◌∷◌, ◌++◌, map, Option, Some, None}
 use Rattle.passkey_json.specs.Blame.{IsBlamed, Reason, path_of, reason_of, step_of}
 use Rattle.passkey_json.specs.Shape.{Shape, leaf, list, record_of, tolerant, Rows, no_rows, row, Step, named, element, Tested, present_in}
 use Rattle.passkey_json.specs.Shape as shape

@@ -1,6 +1,6 @@
 -- Contracts' views of objects and members, and the result of decoding them.
 use Rattle.std.specs.Global.{Vec}
-use Rattle.std.specs.Prelude.{◌≡◌, IfOk, Option, Some, None, Result, Ok, Err, option_map}
+use Rattle.std.specs.Prelude.{◌≡◌, IfOk, Option, Some, Result, Ok, Err, option_map}
 use Rattle.passkey_json.specs.Fault.{Fault, Gives}
 use Rattle.passkey_json.specs.Blame.{Blames}
 use Rattle.passkey_json.specs.Dropped.{Drops}
