@@ -38,5 +38,6 @@ explained t d f b given blamed = record {
   given = given;
   blamed = blamed;
   to_blame = λ once. holds (tested (record_kind (members_in t)) (table_shape t)) (record_strict t) d (path_of b) once
-      (refused (in_object (members_in t) d) (not_ok (in_object (members_in t) d) f given)) (leads_of (path_of b) (reason_of b.reason) (table_shape t) d blamed);
+      (refused (in_object (members_in t) d) (not_ok (in_object (members_in t) d) f given))
+      (leads_of (path_of b) (reason_of b.reason) (table_shape t) d blamed);
 }
