@@ -16,13 +16,14 @@ use Rattle.passkey_json.specs.Fault.{Fault, Gives, no_object, float}
 use Rattle.passkey_json.specs.Members.{in_object, record_kind}
 use Rattle.passkey_json.specs.Table.{members_in}
 use Rattle.passkey_json.specs.declared.json_fault.JsonFault.{JsonFault}
-use Rattle.serde_json.specs.Data.{Data, null, boolean, number, string, array, object, Members, no_members, member}
+use Rattle.serde_json.specs.Data.{Data, object, Members, no_members, member}
 use Rattle.serde_json.specs.Find.{get, get_member}
 use Rattle.serde_json.specs.Written.{has_float, members_have_float}
 use Rattle.passkey_json.specs.Along.{accepts, HasMember, IsOnce, IsRefusedAt, value_along}
 use Rattle.passkey_json.specs.Shape.{Step, named}
 use Rattle.passkey_json.specs.Blame.{path_of, reason_of, wanted}
 use Rattle.passkey_explain_json.specs.ClientDataBlame.{plain_client_data, is_client_data, none_known, nothing_read, first_float, IsBlamedOrFloat, IsClientDataExplained, ExplainsUnknown}
+use Rattle.passkey_explain_json.proofs.Explained.{not_ok}
 use Rattle.passkey_explain_json.specs.Explains.{IsExplained}
 use Rattle.passkey_json.specs.declared.blame.JsonBlame.{JsonBlame}
 use Rattle.passkey_json.specs.declared.json_fault.JsonFault.TheVariants as fault
@@ -36,11 +37,7 @@ fixed_in = in_object (members_in fixed_members)
 fixed_fault : (d : Data) (f : Fault) → fixed_in d ≡ Err f → plain_client_data d ≡ Err f
 unfolding client_data_in
 fixed_fault (object ms) f e = rw e refl
-fixed_fault null f e = let is : no_object ≡ f = cc in ap (λ k. Err k) is
-fixed_fault (boolean b) f e = let is : no_object ≡ f = cc in ap (λ k. Err k) is
-fixed_fault (number n) f e = let is : no_object ≡ f = cc in ap (λ k. Err k) is
-fixed_fault (string s) f e = let is : no_object ≡ f = cc in ap (λ k. Err k) is
-fixed_fault (array ds) f e = let is : no_object ≡ f = cc in ap (λ k. Err k) is
+fixed_fault _ f e = let is : no_object ≡ f = cc in ap (λ k. Err k) is
 
 fixed_given : (d : Data) (g : JsonFault) → Gives ⊥ (fixed_in d) (Err g) → Gives ⊥ (plain_client_data d) (Err g)
 fixed_given d fault.OutOfMemory h = h
@@ -49,14 +46,6 @@ fixed_given d (fault.Missing name) h = fixed_fault d _ h
 fixed_given d (fault.Refused name) h = fixed_fault d _ h
 fixed_given d (fault.Float name) h = fixed_fault d _ h
 fixed_given d (fault.Repeated name) h = fixed_fault d _ h
-
-not_ok : {A : Type 0} (r : Result A Fault) (g : JsonFault) → Gives ⊥ r (Err g) → is_ok r ≡ false
-not_ok r fault.OutOfMemory h = absurd h
-not_ok r fault.NotAnObject h = rw h refl
-not_ok r (fault.Missing name) h = rw h refl
-not_ok r (fault.Refused name) h = rw h refl
-not_ok r (fault.Float name) h = rw h refl
-not_ok r (fault.Repeated name) h = rw h refl
 
 fixed_case : (d : Data) (r : Result FixedMembers Fault) → fixed_in d ≡ r → is_some (result_ok r) ≡ false
     → is_client_data d ≡ false
@@ -186,11 +175,7 @@ fails_case ms b (Err f) e = rw (fixed_fault (object ms) f e) refl
 float_refused : (name : List ℕ) (x e : Data) → is_fixed name ≡ false → has_float x ≡ true → get name e ≡ Some x
     → is_client_data e ≡ false
 float_refused name x (object ms) a b h = fails_case ms (found_float ms name x h a b) (fixed_in (object ms)) refl
-float_refused name x null a b h = absurd cc
-float_refused name x (boolean c) a b h = absurd cc
-float_refused name x (number n) a b h = absurd cc
-float_refused name x (string s) a b h = absurd cc
-float_refused name x (array ds) a b h = absurd cc
+float_refused name x _ a b h = absurd cc
 
 part_case : (name : List ℕ) (x e : Data) → is_fixed name ≡ false → has_float x ≡ true → (o : Option Data) → get name e ≡ o
     → option_and_then (value_along []) o ≡ Some x → is_client_data e ≡ false

@@ -1,5 +1,5 @@
 -- What is left out of a JSON value is there, and refused.
-use Rattle.std.proofs.Common.{◌≡◌, ◌∙◌, ℕ, zero, suc, ◌+◌, zero-add, arith, Bool, true, false, if◌then◌else◌, List, [], ◌∷◌, ◌++◌, map, Option, Some, None, option_map, inl, inr, refl, sym, ap, subst}
+use Rattle.std.proofs.Common.{◌≡◌, ℕ, suc, ◌+◌, zero-add, arith, Bool, true, false, if◌then◌else◌, List, [], ◌∷◌, ◌++◌, map, Option, Some, None, option_map, inl, inr, refl, sym}
 use Rattle.passkey_json.specs.Along.{AreSound, HasMember, IsOnce, Sound, Strict, holds, value_along}
 use Rattle.passkey_json.specs.Dropped.{AreDropped, Drops, LeftOut, Leaving, Told, dropped, dropped_elements, dropped_list, dropped_map, dropped_members, dropped_present, dropped_rows, told, under}
 use Rattle.passkey_json.specs.Record.{rows_sound}
@@ -7,10 +7,10 @@ use Rattle.passkey_json.specs.Shape.{Entry, Shape, leaf, list, record_of, tolera
 use Rattle.passkey_json.specs.Shape as shape
 use Rattle.passkey_json.specs.Table.{PlainTable, table_shape}
 use Rattle.passkey_json.specs.declared.dropped.DroppedValue.{DroppedValue}
-use Rattle.serde_json.specs.Data.{Data, null, boolean, number, string, array, object, Items, no_items, item, Members, no_members, member}
+use Rattle.serde_json.specs.Data.{Data, array, object, Items, no_items, item, Members, no_members, member}
 use Rattle.serde_json.specs.Find.{at, get, get_item}
 use Rattle.passkey_explain_json.proofs.Explained.{leads_of}
-use Rattle.passkey_explain_json.specs.LeftOut.{AreLeftOut, EachLeftOut, IsLeftOut}
+use Rattle.passkey_explain_json.specs.LeftOut.{AreLeftOut, EachLeftOut}
 
 -- the value is there, and refused by what is kept
 record IsThere (d : Data) (o : LeftOut) : Type 0 where
@@ -78,21 +78,13 @@ list_there : (of : Leaving) → ((d : Data) → IsOnce d → AreThere d (of d)) 
     → AreThere d (dropped_list of d)
 list_there of leaves (array ds) once =
     elements_there of leaves (array ds) once 0 ds (λ k j is. rw (is, zero-add) refl)
-list_there of leaves null once = tt
-list_there of leaves (boolean b) once = tt
-list_there of leaves (number n) once = tt
-list_there of leaves (string s) once = tt
-list_there of leaves (object ms) once = tt
+list_there of leaves _ once = tt
 
 map_there : (of : Leaving) → ((d : Data) → IsOnce d → AreThere d (of d)) → (d : Data) → IsOnce d
     → AreThere d (dropped_map of d)
 map_there of leaves (object ms) once =
     members_there of leaves (object ms) once ms (λ name x has. once [] ms refl name x has)
-map_there of leaves null once = tt
-map_there of leaves (boolean b) once = tt
-map_there of leaves (number n) once = tt
-map_there of leaves (string s) once = tt
-map_there of leaves (array ds) once = tt
+map_there of leaves _ once = tt
 
 tolerated_there : (keeps : Data → Bool) (s : Shape) → Strict keeps s → (d : Data) → IsOnce d → AreThere d (dropped s d)
     → (b : Bool) → keeps d ≡ b

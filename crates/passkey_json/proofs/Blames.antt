@@ -17,7 +17,7 @@ use Rattle.passkey_json.specs.declared.blame.JsonStep.{JsonStep}
 use Rattle.passkey_json.specs.declared.row.Row.{Row}
 use Rattle.passkey_json.specs.declared.wanted.WantedJson.TheVariants as want
 use Rattle.passkey_memory.specs.declared.OutOfMemory.{OutOfMemory as NoMemory}
-use Rattle.serde_json.specs.Data.{Data, null, boolean, number, string, array, object, Items, no_items, item}
+use Rattle.serde_json.specs.Data.{Data, array, Items, no_items, item}
 
 -- the blame of a part, as seen from the whole
 abbrev IsUnder : JsonStep → JsonBlame → JsonBlame → Type 0
@@ -40,11 +40,7 @@ none_refused s n (item d ds) = none_refused s (suc n) ds
 
 none_within : {A : Type 0} (kind : Kind A) (s : Shape) (d : Data) → within (accepted_shape kind s) d ≡ None
 none_within kind s (array ds) = none_refused (tolerant_shape kind s) 0 ds
-none_within kind s null = refl
-none_within kind s (boolean b) = refl
-none_within kind s (number n) = refl
-none_within kind s (string t) = refl
-none_within kind s (object ms) = refl
+none_within kind s _ = refl
 
 pub accepted_blames : {A : Type 0} (kind : Kind A) (s : Shape) (d : Data) (b : JsonBlame) → path_of b ≡ []
     → b.reason ≡ reason.Wanted want.Array → Blames (accepted_shape kind s) d b

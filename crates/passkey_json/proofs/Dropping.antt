@@ -59,6 +59,7 @@ pub next_row : {P : Type 0} (ms : List (JsonMember P)) (n : ℕ) (m : JsonMember
 next_row ms n m d e next is shape old new lists adds =
     let added : Adds (dropped_present (dropped m.shape) (present_in m.entry d)) old new =
     subst (λ (o : Option Shape). IfSome o (λ s. Adds (dropped_present (dropped s) (present_in m.entry d)) old new)) shape
-    (subst (λ (x : Entry). IfSome (shape_from ms x.number) (λ s. Adds (dropped_present (dropped s) (present_in x d)) old new)) is adds) in
+    (subst (λ (x : Entry). IfSome (shape_from ms x.number) (λ s. Adds (dropped_present (dropped s) (present_in x d)) old new))
+    is adds) in
     part_listed _ (dropped_present (dropped m.shape) (present_in m.entry d)) (dropped_rows (rows_in (drop (n + 1) ms)) d) old new
     (subst (λ xs. Lists (dropped_rows (rows_in ms) d) (dropped_rows (rows_in xs) d) old) next lists) added

@@ -240,31 +240,19 @@ module _ {A : Type 0} (kind : Kind A) where
   list_fails : (s : Step) (e x : Data) → part_at s e ≡ Some x → accepts kind x ≡ false → accepts (list kind) e ≡ false
   list_fails (element n) (array ds) x here bad = each_fails ds n x here bad
   list_fails (named name) (array ds) x here bad = absurd cc
-  list_fails s null x here bad = refl
-  list_fails s (boolean b) x here bad = refl
-  list_fails s (number m) x here bad = refl
-  list_fails s (string t) x here bad = refl
-  list_fails s (object ms) x here bad = refl
+  list_fails s _ x here bad = refl
 
   pub list_strict : (s : Shape) → Strict (accepts kind) s → Strict (accepts (list kind)) (list_shape kind s)
   list_strict s strict (array ds) p once bad e =
       let t : Tested = record { accepts = accepts kind; shape = s } in
       let f = element_found t (array ds) 0 ds p (λ k j is. rw (is, zero-add) refl) e in
       found_within (accepts (list kind)) t (array ds) p (holds t strict) f (list_fails p.step)
-  list_strict s strict null p once bad e = absurd cc
-  list_strict s strict (boolean b) p once bad e = absurd cc
-  list_strict s strict (number n) p once bad e = absurd cc
-  list_strict s strict (string t) p once bad e = absurd cc
-  list_strict s strict (object ms) p once bad e = absurd cc
+  list_strict s strict _ p once bad e = absurd cc
 
   -- no element is refused
   pub accepted_strict : (s : Shape) → Strict (accepts (accepted kind)) (accepted_shape kind s)
   accepted_strict s (array ds) p once bad e = absurd (true≢false bad)
-  accepted_strict s null p once bad e = absurd cc
-  accepted_strict s (boolean b) p once bad e = absurd cc
-  accepted_strict s (number n) p once bad e = absurd cc
-  accepted_strict s (string t) p once bad e = absurd cc
-  accepted_strict s (object ms) p once bad e = absurd cc
+  accepted_strict s _ p once bad e = absurd cc
 
 -- ---- maps
 
@@ -300,19 +288,11 @@ module _ {A : Type 0} (kind : Kind A) where
       → accepts (map_from_texts kind) e ≡ false
   map_fails (named name) (object ms) x here bad = members_fail ms name x here bad fin.empty
   map_fails (element n) (object ms) x here bad = absurd cc
-  map_fails s (array ds) x here bad = refl
-  map_fails s null x here bad = refl
-  map_fails s (boolean b) x here bad = refl
-  map_fails s (number m) x here bad = refl
-  map_fails s (string t) x here bad = refl
+  map_fails s _ x here bad = refl
 
   pub map_strict : (s : Shape) → Strict (accepts kind) s → Strict (accepts (map_from_texts kind)) (map_shape kind s)
   map_strict s strict (object ms) p once bad e =
       let t : Tested = record { accepts = accepts kind; shape = s } in
       let f = member_found t (object ms) ms p (λ name x has. once [] ms refl name x has) e in
       found_within (accepts (map_from_texts kind)) t (object ms) p (holds t strict) f (map_fails p.step)
-  map_strict s strict null p once bad e = absurd cc
-  map_strict s strict (boolean b) p once bad e = absurd cc
-  map_strict s strict (number n) p once bad e = absurd cc
-  map_strict s strict (string t) p once bad e = absurd cc
-  map_strict s strict (array ds) p once bad e = absurd cc
+  map_strict s strict _ p once bad e = absurd cc

@@ -8,7 +8,7 @@ use Rattle.passkey_json.specs.Fault.{Fault, missing, refused, float, fault_name}
 use Rattle.passkey_json.specs.Kind.{Kind, optional, each, list, accepted, accepted_of, kept}
 use Rattle.passkey_json.specs.Members.{Member, under, fault_of, required, required_tolerated, or_default, if_present, tolerated, accepted_list}
 use Rattle.passkey_json.specs.Written.{ReadsBack, ReadsBackIf}
-use Rattle.serde_json.specs.Data.{Data, null, boolean, number, string, array, object, Items, no_items, item}
+use Rattle.serde_json.specs.Data.{Data, array, Items, no_items, item}
 use Rattle.serde_json.specs.Written.{has_float}
 
 module _ {A : Type 0} {kind : Kind A} {x : A} {d : Data} (back : ReadsBack kind x d) (name : List ℕ) where
@@ -45,11 +45,7 @@ accepted_all kind (item d ds) xs e =
 accepted_back : {A : Type 0} (kind : Kind A) (d : Data) (xs : List A) → list kind d ≡ Some xs
     → accepted kind d ≡ Some xs
 accepted_back kind (array ds) xs e = rw (accepted_all kind ds xs e) refl
-accepted_back kind null xs e = cc
-accepted_back kind (boolean b) xs e = cc
-accepted_back kind (number n) xs e = cc
-accepted_back kind (string s) xs e = cc
-accepted_back kind (object ms) xs e = cc
+accepted_back kind _ xs e = cc
 
 pub required_list_back : {A : Type 0} (kind : Kind A) (xs : List A) (d : Data) → ReadsBack (list kind) xs d
     → (name : List ℕ) → required (accepted kind) (under name (Some d)) ≡ Ok xs

@@ -11,7 +11,7 @@ use Rattle.passkey_json.specs.Fault.{Fault, no_object, missing, refused, float, 
 use Rattle.passkey_json.specs.Members.{◌>>=◌, Object, Member, under, one_of, aliased, in_object, record_kind}
 use Rattle.passkey_json.specs.Record.{JsonMember, PlainTable, either_name, looked, read_all, entries, are_distinct, has_number, uses, is_other, is_other_apart, distinct, members_in, rows_in, table_shape}
 use Rattle.passkey_json.specs.Shape.{Entry, Tested, Part, part, named, entries_in, row_in, entry_named, decoded_as, entry_at, faulty_row, other_present, own_present, row_at}
-use Rattle.serde_json.specs.Data.{Data, array, object, null, boolean, number, string}
+use Rattle.serde_json.specs.Data.{Data, object}
 use Rattle.serde_json.specs.Find.{get}
 
 -- the value under each name
@@ -247,20 +247,12 @@ none_ok (Err f) e = refl
 module _ {P : Type 0} (t : PlainTable P) where
   kind_fails : (e : Data) → Fails t.members e → accepts (record_kind (members_in t)) e ≡ false
   kind_fails (object ms) fails = none_ok (read_all t.members (names_in (object ms)) t.blank) (fails t.blank)
-  kind_fails (array ds) fails = refl
-  kind_fails null fails = refl
-  kind_fails (boolean b) fails = refl
-  kind_fails (number n) fails = refl
-  kind_fails (string s) fails = refl
+  kind_fails _ fails = refl
 
   read_there : (d : Data) (f : Fault) → is_refusal f ≡ true → in_object (members_in t) d ≡ Err f
       → read_all t.members (names_in d) t.blank ≡ Err f
   read_there (object ms) f refuses e = e
-  read_there (array ds) f refuses e = let same : no_object ≡ f = cc in absurd (let r = rw (← same) at refuses in cc)
-  read_there null f refuses e = let same : no_object ≡ f = cc in absurd (let r = rw (← same) at refuses in cc)
-  read_there (boolean b) f refuses e = let same : no_object ≡ f = cc in absurd (let r = rw (← same) at refuses in cc)
-  read_there (number n) f refuses e = let same : no_object ≡ f = cc in absurd (let r = rw (← same) at refuses in cc)
-  read_there (string s) f refuses e = let same : no_object ≡ f = cc in absurd (let r = rw (← same) at refuses in cc)
+  read_there _ f refuses e = let same : no_object ≡ f = cc in absurd (let r = rw (← same) at refuses in cc)
 
   module _ (d : Data) (f : Fault) (name : List ℕ) (p : Part) (e : Entry) (n : IsNamed t.members name e)
       (b : IsFaulty n.m d f) where

@@ -21,8 +21,8 @@ entry_of (code.Aliased number name other) = record { number = number; name = nam
 
 -- A JSON value as a whole, and what is wanted of it; an array, an object with any names, or a record. For the elements
 -- of an array, the members of an object and the row of each member: which of them are accepted, and their shape. Of a
--- record, the fault of decoding it from a JSON value. Where any value is tolerated, which of them are kept. Rows are a list, written out because a data type can't contain a
--- list of itself.
+-- record, the fault of decoding it from a JSON value. Where any value is tolerated, which of them are kept. Rows are a
+-- list, written out because a data type can't contain a list of itself.
 mutual
   pub data Shape : Type 0 where
     leaf : WantedJson → Shape

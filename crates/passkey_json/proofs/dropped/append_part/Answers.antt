@@ -17,6 +17,7 @@ returns c = λ os h.
       (
         are_under os s _ h,
         c.loop-inner.invariant
-            ∙ ap (λ vs. map told c.args.dropped.now.items ++ map (told_under s) (map told vs)) (sym (map-id c.loop-inner.yielded) ∙ all.0),
+            ∙ ap (λ vs. map told c.args.dropped.now.items ++ map (told_under s) (map told vs))
+            (sym (map-id c.loop-inner.yielded) ∙ all.0),
       ),
     )
