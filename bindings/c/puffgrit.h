@@ -9,9 +9,9 @@
      bindings/c/heap.c): else the linker finds one twice. libpuffgrit.so always calls the library's. The other calls call no function of
      C, and may be made from a signal handler.
    - A call that finds nothing returns false, and leaves its output as it was.
-   - A call that looks at a data item looks at all of it: it takes as long as puffgrit_item_len. No proof covers the stack. Measured over
-     arrays, maps and tags of 256 levels, puffgrit_rewrite takes up to 160 KiB, puffgrit_json and puffgrit_explain 352,
-     puffgrit_is_canonical 56, and the others 10.
+   - A call that looks at a data item looks at all of it: it takes as long as puffgrit_item_len. No proof covers the stack: over arrays,
+     maps and tags of 256 levels puffgrit_rewrite of libpuffgrit took up to 160 KiB, puffgrit_json and puffgrit_explain 352,
+     puffgrit_is_canonical 56, and the others 10; README.md has the figures of puffgrit.c.
    - A data item is in CTAP2's canonical form (CTAP 2.1, section 8) if its heads are as short as they can be, its lengths definite, the
      keys of each map in ascending order, and neither a tag nor undefined is in it; a float may have any width. puffgrit_rewrite writes
      the shortest heads, definite lengths, null for undefined, and a message's own members in order. What it keeps as a data item keeps
