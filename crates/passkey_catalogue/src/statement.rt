@@ -1,7 +1,7 @@
 //! Attestation statements, decoded and encoded again.
 ghost use Rattle.std.specs.Prelude.{◌≡◌, IfOk, IfErr};
 ghost use Rattle.passkey_attestation.specs.Formats.{format_name};
-ghost use Rattle.passkey_attestation.specs.Statement.{read_statement, statement_parts};
+ghost use Rattle.passkey_attestation.specs.Statement.{StatementParts, read_statement, statement_parts, statement_tree};
 ghost use Rattle.passkey_cbor.specs.View.{item_of};
 ghost use Rattle.passkey_catalogue.specs.Rewriting.{IsFaultOf, IsStatementRefusal, RewritesStatement};
 ghost use Rattle.passkey_run.specs.Rewriting.{IsFrontLength};
@@ -33,6 +33,24 @@ fn statement_from(
     }
 }
 
+/// Decodes the item as a statement of this format, and returns the data item that the statement is
+/// encoded as. The faults are those of `statement_from`.
+fn statement_item(
+    alloc: Global,
+    format: AttestationFormat,
+    value: &Value,
+) -> Result<Value, RunFault>
+    ensures ok { IfOk result (λ item. (s : StatementParts)
+        × (read_statement (format_name format) (item_of value.now) ≡ Ok s)
+        × (item_of item ≡ statement_tree s)) }
+    ensures err { IfErr result (IsFaultOf (read_statement (format_name format) (item_of value.now))) }
+{
+    let statement = statement_from(alloc, format, value)?;
+    let item = statement.to_value(alloc);
+    drop(statement);
+    Ok(item?)
+}
+
 /// Decodes the leading data item of the bytes as a statement of this format, and encodes it. Returns
 /// the encoding, and the item's length. Returns `MessageRefused` if its map has a fault, `Refused` if
 /// there is no data item or it isn't such a statement for another reason, and `OutOfMemory` if an
@@ -47,7 +65,10 @@ pub(crate) fn rewrite_statement(
     ensures err { IfErr result (IsStatementRefusal format bytes.now) }
 {
     let (value, len) = Value::from_slice(alloc, bytes)?;
-    let statement = statement_from(alloc, format, &value)?;
-    let value = statement.to_value(alloc)?;
-    Ok((value.to_vec(alloc)?, len))
+    let item = statement_item(alloc, format, &value);
+    drop(value);
+    let item = item?;
+    let encoding = item.to_vec(alloc);
+    drop(item);
+    Ok((encoding?, len))
 }
