@@ -1,9 +1,9 @@
 //! Attestation statements, decoded and encoded again.
 ghost use Rattle.std.specs.Prelude.{◌≡◌, IfOk, IfErr};
 ghost use Rattle.passkey_attestation.specs.Formats.{format_name};
-ghost use Rattle.passkey_attestation.specs.Statement.{StatementParts, read_statement, statement_parts, statement_tree};
+ghost use Rattle.passkey_attestation.specs.Statement.{read_statement, statement_parts};
 ghost use Rattle.passkey_cbor.specs.View.{item_of};
-ghost use Rattle.passkey_catalogue.specs.Rewriting.{IsFaultOf, IsStatementRefusal, RewritesStatement};
+ghost use Rattle.passkey_catalogue.specs.Rewriting.{IsFaultOf, IsStatementItem, IsStatementRefusal, RewritesStatement};
 ghost use Rattle.passkey_run.specs.Rewriting.{IsFrontLength};
 
 use passkey_attestation::{AttestationFormat, AttestationStatement, StatementFault};
@@ -40,9 +40,7 @@ fn statement_item(
     format: AttestationFormat,
     value: &Value,
 ) -> Result<Value, RunFault>
-    ensures ok { IfOk result (λ item. (s : StatementParts)
-        × (read_statement (format_name format) (item_of value.now) ≡ Ok s)
-        × (item_of item ≡ statement_tree s)) }
+    ensures ok { IfOk result (λ item. IsStatementItem format (item_of value.now) (item_of item)) }
     ensures err { IfErr result (IsFaultOf (read_statement (format_name format) (item_of value.now))) }
 {
     let statement = statement_from(alloc, format, value)?;
