@@ -5,6 +5,7 @@ use Rattle.passkey_attestation.specs.Statement.{StatementParts, read_statement, 
 use Rattle.passkey_attestation.specs.declared.fault.StatementFault.{StatementFault}
 use Rattle.passkey_attestation.specs.declared.fault.StatementFault.TheVariants.{Member, NotEmpty, NotCompound}
 use Rattle.passkey_attestation.specs.declared.format.AttestationFormat.{AttestationFormat}
+use Rattle.passkey_cbor.specs.Item.{Item}
 use Rattle.passkey_cbor.specs.LeadingItem.{HasNoLeadingItem}
 use Rattle.passkey_cbor.specs.Written.{written}
 use Rattle.passkey_cose.specs.KeyParts.{KeyParts, key_item}
@@ -50,6 +51,12 @@ pub record RewritesStatement (f : AttestationFormat) (bytes encoding : List ℕ)
   pub parts : StatementParts
   pub begins : Begins bytes (λ i len. read_statement (format_name f) i ≡ Ok parts)
   pub rewritten : encoding ≡ written (statement_tree parts)
+
+-- The item that the attestation statement of this format, which this item is, is encoded as.
+pub record IsStatementItem (f : AttestationFormat) (i encoded : Item) : Type 0 where
+  pub parts : StatementParts
+  pub reads : read_statement (format_name f) i ≡ Ok parts
+  pub is : encoded ≡ statement_tree parts
 
 -- why an item isn't decoded as a statement: the fault of its map, or `UnexpectedItem`
 abbrev pub IsFaultOf : Result StatementParts StatementFault → RunFault → Type 0

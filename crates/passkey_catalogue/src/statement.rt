@@ -3,7 +3,7 @@ ghost use Rattle.std.specs.Prelude.{◌≡◌, IfOk, IfErr};
 ghost use Rattle.passkey_attestation.specs.Formats.{format_name};
 ghost use Rattle.passkey_attestation.specs.Statement.{read_statement, statement_parts};
 ghost use Rattle.passkey_cbor.specs.View.{item_of};
-ghost use Rattle.passkey_catalogue.specs.Rewriting.{IsFaultOf, IsStatementRefusal, RewritesStatement};
+ghost use Rattle.passkey_catalogue.specs.Rewriting.{IsFaultOf, IsStatementItem, IsStatementRefusal, RewritesStatement};
 ghost use Rattle.passkey_run.specs.Rewriting.{IsFrontLength};
 
 use passkey_attestation::{AttestationFormat, AttestationStatement, StatementFault};
@@ -33,6 +33,22 @@ fn statement_from(
     }
 }
 
+/// Decodes the item as a statement of this format, and returns the data item that the statement is
+/// encoded as. The faults are those of `statement_from`.
+fn statement_item(
+    alloc: Global,
+    format: AttestationFormat,
+    value: &Value,
+) -> Result<Value, RunFault>
+    ensures ok { IfOk result (λ item. IsStatementItem format (item_of value.now) (item_of item)) }
+    ensures err { IfErr result (IsFaultOf (read_statement (format_name format) (item_of value.now))) }
+{
+    let statement = statement_from(alloc, format, value)?;
+    let item = statement.to_value(alloc);
+    drop(statement);
+    Ok(item?)
+}
+
 /// Decodes the leading data item of the bytes as a statement of this format, and encodes it. Returns
 /// the encoding, and the item's length. Returns `MessageRefused` if its map has a fault, `Refused` if
 /// there is no data item or it isn't such a statement for another reason, and `OutOfMemory` if an
@@ -47,7 +63,10 @@ pub(crate) fn rewrite_statement(
     ensures err { IfErr result (IsStatementRefusal format bytes.now) }
 {
     let (value, len) = Value::from_slice(alloc, bytes)?;
-    let statement = statement_from(alloc, format, &value)?;
-    let value = statement.to_value(alloc)?;
-    Ok((value.to_vec(alloc)?, len))
+    let item = statement_item(alloc, format, &value);
+    drop(value);
+    let item = item?;
+    let encoding = item.to_vec(alloc);
+    drop(item);
+    Ok((encoding?, len))
 }
