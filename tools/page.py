@@ -47,7 +47,7 @@ def statuses():
 def commands():
     """Each command by its byte: its name, and the kind of its parameters, if it has some."""
     bytes_of = dict(re.findall(r"/// (0x[0-9A-F]{2}): (?:.*\n\s+)(?:///.*\n\s+)*(\w+),", source("passkey_commands/src/framing/command.rt")))
-    body = source(f"{INSPECT}/frame.rt").partition("pub fn request_kind")[2]
+    body = source(f"{INSPECT}/frame.rt").partition("fn request_kind")[2]
     kinds_of, names = {}, kind_names()
     for arm, path in re.findall(r"((?:Command::\w+[\s|]*)+)=>\s*\{?\s*Some\(InspectKind::\w+\((\w+::\w+)\)\)", body):
         kinds_of.update((it, names[path]) for it in re.findall(r"Command::(\w+)", arm))
@@ -57,8 +57,8 @@ def commands():
 def members(messages):
     """The names of messages' members by their numbers, by the kinds' names."""
     found = {}
-    for word, file in messages.items():
-        rows = re.findall(r'Row::\w+\((\w+), "(\w+)"\)', source(file))
+    for word, file in messages:
+        rows = re.findall(r'Row::\w+\((\w+), "(\w+)"\)', file.read_text(encoding="utf-8"))
         found[word.lower().replace("_", "-")] = {int(number, 0): name for number, name in sorted(rows, key=lambda it: int(it[0], 0))}
     return found
 
