@@ -6,8 +6,8 @@ use Rattle.passkey_c.specs.declared.verdict.Verdict.{Verdict}
 use Rattle.passkey_c.specs.declared.verdict.Verdict.TheVariants as verdict
 
 pub explains_of : {old new : Memory} {status : ℕ} {E : Type 0} (Accepts : ℕ → Type 0)
-    (Tells : ℕ → Refusal → List ℕ → Type 0) (r : Result Verdict E) → IfOk r (IsVerdict Accepts Tells) → TellsResult r old new status
-    → Explaining Accepts Tells old new status
+    (Tells : ℕ → Refusal → List ℕ → Type 0) (r : Result Verdict E) → IfOk r (IsVerdict Accepts Tells)
+    → TellsResult r old new status → Explaining Accepts Tells old new status
 explains_of A T (Ok (verdict.Accepted n)) ok is = accepted is.0 n ok is.1
 explains_of {old} {new} {status} A T (Ok (verdict.Refused r)) ok is = told (record {
   text = is.text;

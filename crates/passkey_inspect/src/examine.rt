@@ -105,8 +105,7 @@ fn left_out<M: Message>(alloc: Global, bytes: &[u8]) -> Result<String, OutOfMemo
     }
 }
 
-/// Examines a message. No bytes are an empty map, as in the body of a request or a response
-/// (CTAP 2.1, section 8).
+/// Examines the message at the beginning of the bytes (CTAP 2.1, section 6).
 fn examine_message<M: Message>(alloc: Global, bytes: &[u8]) -> Result<Examined, OutOfMemory> {
     if let Some(explanation) = explain::<M>(alloc, bytes)? {
         let refused = message_refused::<M>(alloc, bytes, &explanation);
