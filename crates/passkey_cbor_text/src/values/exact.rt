@@ -1,0 +1,88 @@
+//! Data items as JSON texts, from which they are read back.
+ghost use Rattle.std.specs.Prelude.{◌≡◌, ◌≤◌, IfOk, IsTrue, Some};
+ghost use Rattle.hex.specs.Hex.{encode_lower};
+ghost use Rattle.json.specs.Json.{document};
+ghost use Rattle.passkey_cbor.specs.Bytes.{IsBytes};
+ghost use Rattle.passkey_cbor.specs.Depth.{depth};
+ghost use Rattle.passkey_cbor.specs.LeadingItem.{max_depth};
+ghost use Rattle.passkey_cbor.specs.View.{item_of};
+ghost use Rattle.passkey_cbor_text.specs.values.Exact.{IsEscapeOf, IsJsonOf, escaped};
+ghost use Rattle.passkey_cbor_text.specs.values.JsonItem.{leaf_item};
+
+use crate::values::writer::friendly_json;
+use crate::values::{ItemFault, StringForm, item_from_json};
+use json::{Error, Scratch, Value as Json};
+use passkey_cbor::Value;
+use passkey_memory::OutOfMemory;
+use std::alloc::Global;
+
+/// Returns the escape with these digits.
+fn escape_text(alloc: Global, digits: &str) -> Result<Vec<u8>, OutOfMemory>
+    ensures { IfOk result (λ text. document text.items ≡ Some (escaped digits.now)) }
+{
+    let mut members = Vec::new(alloc);
+    members.push(("$cbor", Json::String(digits)))?;
+    Ok(json::to_vec(alloc, &Json::Object(members))?)
+}
+
+/// Returns the escape of the item with this encoding.
+fn escape_encoding(alloc: Global, encoding: &[u8]) -> Result<Vec<u8>, OutOfMemory>
+    ensures fits { IsBytes encoding.now }
+    ensures parsed { IfOk result
+        (λ text. document text.items ≡ Some (escaped (encode_lower encoding.now))) }
+{
+    let digits = hex::encode(alloc, encoding)?;
+    escape_text(alloc, digits.as_str())
+}
+
+/// Returns the data item as JSON by its encoding alone, as an escape. Returns `OutOfMemory` if an allocation
+/// fails.
+pub fn escape_of_item(alloc: Global, value: &Value) -> Result<Vec<u8>, OutOfMemory>
+    requires { depth (item_of value.now) ≤ max_depth }
+    ensures { IfOk result (λ text. IsEscapeOf (item_of value.now) text.items) }
+{
+    passkey_cbor::laws::leading_item_is_found();
+    passkey_cbor::laws::written_is_leading_item();
+    let encoding = value.to_vec(alloc)?;
+    escape_encoding(alloc, encoding.as_slice())
+}
+
+/// Whether the text is JSON that is the data item.
+fn is_json_of(
+    alloc: Global,
+    form: StringForm,
+    text: &str,
+    value: &Value,
+) -> Result<bool, OutOfMemory>
+    ensures { IfOk result (λ b. IsTrue b → IsJsonOf (leaf_item form) (item_of value.now) text.now) }
+{
+    let mut scratch = Scratch::new(alloc);
+    let json = match Json::parse(alloc, text, &mut scratch) {
+        Ok(json) => json,
+        Err(Error::OutOfMemory) => return Err(OutOfMemory),
+        Err(_) => return Ok(false),
+    };
+    match item_from_json(alloc, form, &json) {
+        Ok(found) => Ok(found == *value),
+        Err(ItemFault::NoItem(_)) => Ok(false),
+        Err(ItemFault::OutOfMemory) => Err(OutOfMemory),
+    }
+}
+
+/// Returns the data item as a JSON text that `item_from_json` makes the same item of: byte strings, big
+/// numbers, keys that are no text, tags, floats, and the order and the repetition of members are all kept,
+/// in escapes where JSON has nothing for them. Returns `OutOfMemory` if an allocation fails.
+pub fn json_from_item(
+    alloc: Global,
+    form: StringForm,
+    value: &Value,
+) -> Result<Vec<u8>, OutOfMemory>
+    requires { depth (item_of value.now) ≤ max_depth }
+    ensures { IfOk result (λ text. IsJsonOf (leaf_item form) (item_of value.now) text.items) }
+{
+    let text = friendly_json(alloc, form, value)?;
+    if is_json_of(alloc, form, text.as_str(), value)? {
+        return Ok(text.into_bytes());
+    }
+    escape_of_item(alloc, value)
+}
