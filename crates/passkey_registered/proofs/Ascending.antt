@@ -34,12 +34,12 @@ other_way Greater h apart = refl
 
 -- ---- the keys with one more
 
-up_behind : (before : Option (List ℕ)) (m : Item × Item) (ms : Members) → ComesAfter before (written m.0)
+up_after : (before : Option (List ℕ)) (m : Item × Item) (ms : Members) → ComesAfter before (written m.0)
     → AscendFrom before (pairs_of ms) → IsApart m ms → AscendFrom before (pairs_of (placed m ms))
-up_behind before m [] after h apart = (after, tt)
-up_behind before m (x ∷ xs) after h apart =
+up_after before m [] after h apart = (after, tt)
+up_after before m (x ∷ xs) after h apart =
     by_case (is_lt (ctap2_order (written m.0) (written x.0))) refl
-    (λ later. up_behind (Some (written x.0)) m xs later h.1 apart.1) where
+    (λ later. up_after (Some (written x.0)) m xs later h.1 apart.1) where
       by_case : (b : Bool) → is_lt (ctap2_order (written m.0) (written x.0)) ≡ b
           → (IsBefore (written x.0) (written m.0) → AscendFrom (Some (written x.0)) (pairs_of (placed m xs)))
           → AscendFrom before (pairs_of (placed m (x ∷ xs)))
@@ -52,4 +52,4 @@ up_behind before m (x ∷ xs) after h apart =
 pub kept_in_order : OthersKeepOrder
 kept_in_order [] ms up apart = up
 kept_in_order (o ∷ os) ms up apart =
-    kept_in_order os (placed o ms) (up_behind None o ms tt up apart.0) apart.1
+    kept_in_order os (placed o ms) (up_after None o ms tt up apart.0) apart.1

@@ -1,5 +1,9 @@
+pub mod ExactValues
+pub mod EntityLaws
 pub mod Information
 pub mod Named
 pub mod ExtensionsLaws
+pub mod Requests
 pub mod Places
+pub mod Sorting
 pub mod Ascending

@@ -49,7 +49,7 @@ written_long (item.float f) = float_long f
 
 -- ---- where a member is placed
 
-either_within : (b : Bool) (n k : ℕ) → n ≤ k → (if b then 0 else suc n) ≤ suc k
+pub either_within : (b : Bool) (n k : ℕ) → n ≤ k → (if b then 0 else suc n) ≤ suc k
 either_within true n k h = omega arith
 either_within false n k h = omega (arith, h)
 

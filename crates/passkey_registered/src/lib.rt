@@ -1,6 +1,16 @@
-//! What is registered with CTAP 2.1 to 2.3 beyond the members and extensions of `passkey_ctap2`: extensions, and
-//! authenticatorGetInfo responses with every member, each name as it came.
+//! What is registered with CTAP 2.1 to 2.3 beyond the members and extensions of `passkey_ctap2`: extensions;
+//! authenticatorGetInfo responses with every member, each name as it came; and requests to make and to use a
+//! credential by the standard alone.
 #![tactic(auto)]
 
+mod canonical_form;
+mod client_data_hash;
+pub mod entities;
+mod exact;
 pub mod extensions;
+pub mod get_assertion;
 pub mod get_info;
+pub mod make_credential;
+
+pub use canonical_form::{canonical_vec, in_canonical_form};
+pub use client_data_hash::ClientDataHash;

@@ -75,11 +75,11 @@ newest_members =
     (λ x r. record r { authenticator_config_commands = x })
     ∷ []
 
-abbrev pub behind_middle : List (Placed Response)
-behind_middle = last_members ++ newest_members
+abbrev pub after_middle : List (Placed Response)
+after_middle = last_members ++ newest_members
 
-abbrev pub behind_first : List (Placed Response)
-behind_first = middle_members ++ behind_middle
+abbrev pub after_first : List (Placed Response)
+after_first = middle_members ++ after_middle
 
 abbrev pub information : PlainTable Response
 information = record {
@@ -116,5 +116,5 @@ information = record {
     enc_cred_store_state = None;
     authenticator_config_commands = None;
   };
-  members = first_members ++ behind_first;
+  members = first_members ++ after_first;
 }

@@ -2,7 +2,8 @@
 ghost use Rattle.std.specs.Prelude.{◌≡◌, ◌++◌, ℕ, is_ok, true, OnOk};
 ghost use Rattle.passkey_kinds.specs.Placed.{members_of};
 ghost use Rattle.passkey_kinds.specs.Words.{AllAccepted, EachFits, Item, Puts, cost_at, fields_with, keeps_at, places_of, put_all, shape_at};
-ghost use Rattle.passkey_registered.specs.get_info.Information.{behind_first, behind_middle, first_members, information, last_members, middle_members, newest_members};
+ghost use Rattle.passkey_registered.specs.get_info.Information.{after_first, after_middle, first_members, information};
+ghost use Rattle.passkey_registered.specs.get_info.Information.{last_members, middle_members, newest_members};
 
 use crate::get_info::{CredentialParameters, Options};
 use passkey_bytes::{Bytes, List, Text};
@@ -234,9 +235,9 @@ impl Response {
         source: &mut S,
     ) -> Result<(), Refusal>
         ensures puts { (i : Item) (to : ℕ) → S.At source.old i to
-            → Puts (fields_with true information.blank behind_first) number i self.old self.new result }
-        ensures spends { (i : Item) (to : ℕ) → S.At source.old i to → S.HasCost (cost_at (members_of behind_first) number)
-            (keeps_at (members_of behind_first) number) (shape_at (members_of behind_first) number) i to
+            → Puts (fields_with true information.blank after_first) number i self.old self.new result }
+        ensures spends { (i : Item) (to : ℕ) → S.At source.old i to → S.HasCost (cost_at (members_of after_first) number)
+            (keeps_at (members_of after_first) number) (shape_at (members_of after_first) number) i to
             source.old source.new (is_ok result) }
         ensures onward { S.IsOnward source.old source.new }
         ensures further { OnOk result (S.IsFurther source.old source.new) }
@@ -264,9 +265,9 @@ impl Response {
         source: &mut S,
     ) -> Result<(), Refusal>
         ensures puts { (i : Item) (to : ℕ) → S.At source.old i to
-            → Puts (fields_with true information.blank behind_middle) number i self.old self.new result }
-        ensures spends { (i : Item) (to : ℕ) → S.At source.old i to → S.HasCost (cost_at (members_of behind_middle) number)
-            (keeps_at (members_of behind_middle) number) (shape_at (members_of behind_middle) number) i to
+            → Puts (fields_with true information.blank after_middle) number i self.old self.new result }
+        ensures spends { (i : Item) (to : ℕ) → S.At source.old i to → S.HasCost (cost_at (members_of after_middle) number)
+            (keeps_at (members_of after_middle) number) (shape_at (members_of after_middle) number) i to
             source.old source.new (is_ok result) }
         ensures onward { S.IsOnward source.old source.new }
         ensures further { OnOk result (S.IsFurther source.old source.new) }

@@ -1,0 +1,42 @@
+-- The canonical form of data items: the members of each map in CTAP2's order (CTAP 2.2, section 8).
+use Rattle.std.specs.Prelude.{◌≡◌, ℕ, suc, [], ◌∷◌, List, if◌then◌else◌, map}
+use Rattle.passkey_cbor.specs.Item.{Item, Items, Pairs, array, item, members, no_items, no_pairs, pair, pairs_of, tagged}
+use Rattle.passkey_cbor.specs.Item as spec
+use Rattle.passkey_cbor.specs.Order.{ctap2_order}
+use Rattle.passkey_cbor.specs.Written.{written}
+use Rattle.passkey_registered.specs.extensions.Others.{with_all}
+use Rattle.passkey_kinds.specs.Words.{Members}
+use Rattle.std.specs.Ordering.{is_lt}
+
+-- these members, each before the first one whose key comes after its own
+abbrev pub sorted : Members → Members
+sorted ms = with_all ms []
+
+-- the item with the members of each map sorted: nothing is added and nothing left out
+abbrev mutual
+  pub canonical_form : Item → Item
+  canonical_form (array xs) = array (canonical_items xs)
+  canonical_form (spec.map ps) = spec.map (pairs_of (sorted (members (canonical_pairs ps))))
+  canonical_form (tagged t x) = tagged t (canonical_form x)
+  canonical_form i = i
+
+  pub canonical_items : Items → Items
+  canonical_items no_items = no_items
+  canonical_items (item x xs) = item (canonical_form x) (canonical_items xs)
+
+  pub canonical_pairs : Pairs → Pairs
+  canonical_pairs no_pairs = no_pairs
+  canonical_pairs (pair k v ps) = pair (canonical_form k) (canonical_form v) (canonical_pairs ps)
+
+-- a member with its key and its value in canonical form
+abbrev pub canonical_member : Item × Item → Item × Item
+canonical_member m = (canonical_form m.0, canonical_form m.1)
+
+-- the index of the first of these encoded keys that comes after this one
+abbrev pub place_among : List ℕ → List (List ℕ) → ℕ
+place_among key [] = 0
+place_among key (k ∷ ks) = if is_lt (ctap2_order key k) then 0 else suc (place_among key ks)
+
+-- these are the encoded keys of the members
+abbrev pub AreKeysOf : Members → List (List ℕ) → Type 0
+AreKeysOf ms ks = ks ≡ map (λ m. written m.0) ms

@@ -1,0 +1,4 @@
+//! Messages of authenticatorGetAssertion, by the standard alone (CTAP 2.2, section 6.2).
+mod request;
+
+pub use request::Request;
