@@ -1,6 +1,5 @@
-//! Tests of `passkey_cbor`, `passkey_bytes`, `passkey_cose`, `passkey_core`, `passkey_view`,
-//! `passkey_webauthn` and `passkey_tpm`: values from the standards, printed texts, and calls that need
-//! memory.
+//! Tests of `passkey_cbor`, `passkey_bytes`, `passkey_cose`, `passkey_core` and `passkey_tpm`: values
+//! from the standards, printed texts, and calls that need memory.
 #![tactic(auto)]
 
 #[cfg(test)]
@@ -10,23 +9,11 @@ mod base64;
 #[cfg(test)]
 mod checks;
 #[cfg(test)]
-mod client_data;
-#[cfg(test)]
 mod containers;
-#[cfg(test)]
-mod cose_keys;
 #[cfg(test)]
 mod ctap2;
 #[cfg(test)]
-mod encoder;
-#[cfg(test)]
-mod entities;
-#[cfg(test)]
 mod items;
-#[cfg(test)]
-mod key_order;
-#[cfg(test)]
-mod names;
 #[cfg(test)]
 mod printed;
 #[cfg(test)]

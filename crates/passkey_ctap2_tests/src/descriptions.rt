@@ -15,26 +15,16 @@ fn assert_described<M: Message>(rt: &(impl Abort + AllocGlobal), hexadecimal: &s
     assert_eq!(rt; text.as_str(), wanted, "of {hexadecimal}");
 }
 
-/// CTAP 2.1, section 6.2: rpId (1), here with a member of a later version; clientDataHash, which is
-/// required, is absent.
+/// CTAP 2.1, sections 6.2 and 6.4: rpId (1) with a member of a later version, where clientDataHash is
+/// absent; versions (1), a list of texts with a number in it; and credential (1), which is no map.
 #[test]
-fn members(rt: HostRuntime) {
+fn members_are_described(rt: HostRuntime) {
     let wanted = "Record([(Member(1, \"rpId\"), Leaf(Text, Text(\"a\"))), \
         (Unknown(Integer(Integer { value: 99 })), Leaf(Any, Integer(Integer { value: 10 })))])";
     assert_described::<Request>(&rt, "a201616118630a", wanted);
-}
-
-/// CTAP 2.1, section 6.4: versions (1), a list of texts, here with a number in it.
-#[test]
-fn elements(rt: HostRuntime) {
     let wanted = "Record([(Member(1, \"versions\"), \
         List([Leaf(Text, Text(\"FIDO_2_0\")), Leaf(Text, Integer(Integer { value: 5 }))]))])";
     assert_described::<GetInfo>(&rt, "a10182684649444f5f325f3005", wanted);
-}
-
-/// CTAP 2.1, section 6.2: credential (1), here no map.
-#[test]
-fn nested_records(rt: HostRuntime) {
     let wanted = "Record([(Member(1, \"credential\"), Leaf(Map, Integer(Integer { value: 5 })))])";
     assert_described::<Response>(&rt, "a10105", wanted);
 }

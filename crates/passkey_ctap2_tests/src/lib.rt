@@ -4,8 +4,6 @@
 #[cfg(test)]
 mod descriptions;
 #[cfg(test)]
-mod explanations;
-#[cfg(test)]
 mod extensions;
 #[cfg(test)]
 mod get_assertion;
@@ -16,11 +14,7 @@ mod kinds;
 #[cfg(test)]
 mod make_credential;
 #[cfg(test)]
-mod messages;
-#[cfg(test)]
 mod records;
-#[cfg(test)]
-mod signed_bytes;
 #[cfg(test)]
 mod streams;
 #[cfg(test)]

@@ -1,41 +1,10 @@
 //! authenticatorMakeCredential (CTAP 2.1, section 6.1).
-use crate::tables::{
-    assert_read, assert_refused, assert_rewritten, bytes_of, hexadecimal, item_of, read, shown,
-};
-use passkey_bytes::{Bytes, Text};
+use crate::tables::{assert_read, bytes_of, hexadecimal, shown};
+use passkey_bytes::Text;
 use passkey_cbor::Value;
 use passkey_core::AuthenticatorData;
-use passkey_ctap2::make_credential::{
-    Options, PublicKeyCredentialRpEntity, PublicKeyCredentialUserEntity, Request, Response,
-};
-use passkey_webauthn as webauthn;
+use passkey_ctap2::make_credential::{Options, PublicKeyCredentialUserEntity, Request, Response};
 use std::process::Abort;
-
-/// {"name": "b", "id": "a"}, and the debug text of the relying party.
-const RP: &str = "a2646e616d6561626269646161";
-
-const RP_SHOWN: &str = "Ok(PublicKeyCredentialRpEntity { id: \"a\", name: Some(\"b\") })";
-
-fn copied_rp(rt: &(impl Abort + AllocGlobal), item: &str) -> String {
-    shown(
-        rt,
-        &read::<PublicKeyCredentialRpEntity>(rt, item).try_clone(rt.alloc()),
-    )
-}
-
-#[test]
-fn relying_parties(rt: HostRuntime) {
-    // {"x": 0, "id": "a"}
-    let alone = "a26178006269646161";
-    let alone_shown = "Ok(PublicKeyCredentialRpEntity { id: \"a\", name: None })";
-    assert_read::<PublicKeyCredentialRpEntity>(&rt, &[(alone, alone_shown), (RP, RP_SHOWN)]);
-    let rewritten = [(alone, "a16269646161"), (RP, "a26269646161646e616d656162")];
-    assert_rewritten::<PublicKeyCredentialRpEntity>(&rt, &rewritten);
-    // {"id": "a", "name": 0} and {}
-    let number = "a26269646161646e616d6500";
-    assert_refused::<PublicKeyCredentialRpEntity>(&rt, &[number, "a0"]);
-    assert_eq!(rt; copied_rp(&rt, RP).as_str(), RP_SHOWN);
-}
 
 /// {"icon": "i", "displayName": "d", "name": "n", "id": h'07'}, and the debug text of the user.
 const USER: &str = "a46469636f6e61696b646973706c61794e616d656164646e616d65616e6269644107";
@@ -44,65 +13,6 @@ const USER_SHOWN: &str = concat!(
     "Ok(PublicKeyCredentialUserEntity { id: Bytes([7]), ",
     "name: Some(\"n\"), display_name: Some(\"d\"), icon_url: Some(\"i\") })",
 );
-
-fn copied_user(rt: &(impl Abort + AllocGlobal), item: &str) -> String {
-    shown(
-        rt,
-        &read::<PublicKeyCredentialUserEntity>(rt, item).try_clone(rt.alloc()),
-    )
-}
-
-#[test]
-fn users(rt: HostRuntime) {
-    assert_read::<PublicKeyCredentialUserEntity>(&rt, &[(USER, USER_SHOWN)]);
-    let rewritten = [
-        (
-            USER,
-            "a462696441076469636f6e6169646e616d65616e6b646973706c61794e616d656164",
-        ),
-        // {"displayName": null, "id": h''}
-        ("a26b646973706c61794e616d65f662696440", "a162696440"),
-    ];
-    assert_rewritten::<PublicKeyCredentialUserEntity>(&rt, &rewritten);
-    assert_refused::<PublicKeyCredentialUserEntity>(&rt, &["a0"]);
-    assert_eq!(rt; copied_user(&rt, USER).as_str(), USER_SHOWN);
-}
-
-#[test]
-fn options(rt: HostRuntime) {
-    // {"up": false, "rk": true}
-    let absent = "a2627570f462726bf5";
-    let read = [
-        ("a0", "Ok(Options { rk: false, up: true, uv: false })"),
-        (absent, "Ok(Options { rk: true, up: false, uv: false })"),
-    ];
-    assert_read::<Options>(&rt, &read);
-    let rewritten = [
-        ("a0", "a362726bf4627570f5627576f4"),
-        // "up" is encoded only if it is true
-        (absent, "a262726bf5627576f4"),
-    ];
-    assert_rewritten::<Options>(&rt, &rewritten);
-    // {"uv": null}
-    assert_refused::<Options>(&rt, &["a1627576f6"]);
-}
-
-// The text is that of the Rust crate passkey-types.
-#[test]
-fn users_without_names_are_none_of_webauthn(rt: HostRuntime) {
-    let user = PublicKeyCredentialUserEntity {
-        id: Bytes::empty(rt.alloc()),
-        name: None,
-        display_name: None,
-        icon_url: None,
-    };
-    let text =
-        "PublicKeyCredentialUserEntity is missing one or more required fields: name, display_name";
-    assert_eq!(rt;
-        webauthn::PublicKeyCredentialUserEntity::try_from(user).err(),
-        Some(text)
-    );
-}
 
 /// A request with every member, the last one first.
 const REQUEST: &str = concat!(
@@ -129,6 +39,13 @@ fn read_request(rt: &(impl Abort + AllocGlobal), item: &str) -> String {
 
 #[test]
 fn requests(rt: HostRuntime) {
+    assert_read::<PublicKeyCredentialUserEntity>(&rt, &[(USER, USER_SHOWN)]);
+    // {"up": false, "rk": true}
+    let asked = (
+        "a2627570f462726bf5",
+        "Ok(Options { rk: true, up: false, uv: false })",
+    );
+    assert_read::<Options>(&rt, &[asked]);
     assert_eq!(rt; read_request(&rt, REQUEST).as_str(), REQUEST_SHOWN);
 }
 
@@ -144,12 +61,6 @@ const RESPONSE_SHOWN: &str = concat!(
     "unsigned_extension_outputs: Some(UnsignedExtensionOutputs { prf: None }) }, 53))",
 );
 
-/// {"fmt": "none", "attStmt": {}, "authData": the same data} (WebAuthn Level 3, section 6.5.4)
-const ATTESTATION_OBJECT: &str = concat!(
-    "a363666d74646e6f6e656761747453746d74a06861757468446174615825050605060506050605060506050605060506",
-    "05060506050605060506050605060100000009",
-);
-
 fn read_response(rt: &(impl Abort + AllocGlobal), item: &str) -> String {
     shown(
         rt,
@@ -157,19 +68,9 @@ fn read_response(rt: &(impl Abort + AllocGlobal), item: &str) -> String {
     )
 }
 
-fn attestation_object(rt: &(impl Abort + AllocGlobal), item: &str) -> String {
-    let response = Response::from_value(rt.alloc(), &item_of(rt, item)).expect(rt, "a response");
-    let bytes = response.as_webauthn_bytes(rt.alloc()).expect(rt, "memory");
-    hexadecimal(rt, bytes.as_slice())
-}
-
 #[test]
 fn responses(rt: HostRuntime) {
     assert_eq!(rt; read_response(&rt, RESPONSE).as_str(), RESPONSE_SHOWN);
-    assert_eq!(rt;
-        attestation_object(&rt, RESPONSE).as_str(),
-        ATTESTATION_OBJECT
-    );
 }
 
 /// This many arrays, one inside the other.

@@ -1,5 +1,5 @@
 //! Readers and writers that fail: how many reads and writes are made.
-use passkey_run::{RunFault, read_all, read_within, write_all};
+use passkey_rewrite::{RunFault, read_all, read_within, write_all};
 use std::io;
 use std::io::{ErrorKind, Read, Write};
 use std::process::Abort;

@@ -1,5 +1,5 @@
 //! Tables of items in hexadecimal, with what they decode to and are encoded as.
-use passkey_cbor::{Cursor, Value};
+use passkey_cbor::Value;
 use passkey_kinds::{FromCbor, ToCbor};
 use std::fmt::Debug;
 use std::process::Abort;
@@ -41,26 +41,6 @@ pub(crate) fn assert_read<T: FromCbor + Debug>(
     }
 }
 
-/// Asserts the same, and that each item decodes to the same value over a cursor, which is then
-/// after it.
-pub(crate) fn assert_read_both<T: FromCbor + Debug>(
-    rt: &(impl Abort + AllocGlobal),
-    rows: &[(&str, &str)],
-) {
-    assert_read::<T>(rt, rows);
-    for (item, wanted) in rows {
-        let bytes = bytes_of(rt, item);
-        let mut cursor = Cursor::new(bytes.as_slice());
-        let value = T::read(rt.alloc(), &mut cursor);
-        assert_eq!(rt;
-            shown(rt, &value).as_str(),
-            *wanted,
-            "of {item}, over a cursor"
-        );
-        assert_eq!(rt; cursor.place(), bytes.len(), "behind {item}");
-    }
-}
-
 /// Asserts the encoding of the value that each item decodes to.
 pub(crate) fn assert_rewritten<T: FromCbor + ToCbor>(
     rt: &(impl Abort + AllocGlobal),
@@ -78,26 +58,4 @@ pub(crate) fn assert_refused<T: FromCbor + Debug>(rt: &(impl Abort + AllocGlobal
         let value = T::from_value(rt.alloc(), &item_of(rt, item));
         assert_eq!(rt; shown(rt, &value).as_str(), "Err(Refused)", "of {item}");
     }
-}
-
-/// Asserts the same, and that each item is also rejected over a cursor.
-pub(crate) fn assert_refused_both<T: FromCbor + Debug>(
-    rt: &(impl Abort + AllocGlobal),
-    items: &[&str],
-) {
-    assert_refused::<T>(rt, items);
-    for item in items {
-        let bytes = bytes_of(rt, item);
-        let value = T::read(rt.alloc(), &mut Cursor::new(bytes.as_slice()));
-        assert_eq!(rt;
-            shown(rt, &value).as_str(),
-            "Err(Refused)",
-            "of {item}, over a cursor"
-        );
-    }
-}
-
-/// The value that the item decodes to.
-pub(crate) fn read<T: FromCbor>(rt: &(impl Abort + AllocGlobal), item: &str) -> T {
-    T::from_value(rt.alloc(), &item_of(rt, item)).expect(rt, item)
 }

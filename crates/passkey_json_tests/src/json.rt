@@ -9,11 +9,6 @@ pub fn parsed(rt: &(impl Abort + AllocGlobal), text: &str) -> Value {
     Value::from_str(rt.alloc(), text).expect(rt, "a JSON text")
 }
 
-/// The record that a JSON text decodes to.
-pub fn record<T: JsonRecord>(rt: &(impl Abort + AllocGlobal), text: &str) -> T {
-    T::from_json(rt.alloc(), &parsed(rt, text)).expect(rt, "a record")
-}
-
 /// The text that `{}` prints.
 pub fn displayed<T: Display>(rt: &(impl Abort + AllocGlobal), value: &T) -> String {
     format!(in rt.alloc(); "{value}").expect(rt, "memory")

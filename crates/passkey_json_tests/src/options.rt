@@ -12,8 +12,8 @@ fn each_field_of_a_creation_is_the_member_of_its_name(rt: HostRuntime) {
     assert_reads::<CredentialCreationOptions>(
         &rt,
         &[(
-            r#"{"publicKey":{"attestation":"direct","attestationFormats":["tpm"],"authenticatorSelection":{},"challenge":"AQ","excludeCredentials":[{"type":"public-key","id":"Ag"}],"extensions":{},"hints":["hybrid"],"pubKeyCredParams":[{"type":"public-key","alg":-7}],"rp":{"name":"a"},"timeout":"300000","user":{"id":"Aw","name":"b","displayName":"c"}}}"#,
-            r#"CredentialOptions { public_key: PublicKeyCredentialCreationOptions { rp: PublicKeyCredentialRpEntity { id: None, name: "a" }, user: PublicKeyCredentialUserEntity { id: Bytes([3]), display_name: "c", name: "b" }, challenge: Bytes([1]), pub_key_cred_params: [PublicKeyCredentialParameters { ty: PublicKey, alg: ES256 }], timeout: Some(300000), exclude_credentials: Some([PublicKeyCredentialDescriptor { ty: PublicKey, id: Bytes([2]), transports: None }]), authenticator_selection: Some(AuthenticatorSelectionCriteria { authenticator_attachment: None, resident_key: None, require_resident_key: false, user_verification: Preferred }), hints: Some([Hybrid]), attestation: Direct, attestation_formats: Some([Tpm]), extensions: Some(AuthenticationExtensionsClientInputs { cred_props: None, prf: None, prf_already_hashed: None }) } }"#,
+            r#"{"publicKey":{"attestation":"direct","attestationFormats":["tpm"],"authenticatorSelection":{},"challenge":"AQ","excludeCredentials":[{"type":"public-key","id":"Ag","transports":["usb","smart-card",1,"cable"]}],"extensions":{},"hints":["hybrid"],"pubKeyCredParams":[{"type":"public-key","alg":-7}],"rp":{"name":"a","id":"d"},"timeout":"300000","user":{"id":"Aw","name":"b","displayName":"c"}}}"#,
+            r#"CredentialOptions { public_key: PublicKeyCredentialCreationOptions { rp: PublicKeyCredentialRpEntity { id: Some("d"), name: "a" }, user: PublicKeyCredentialUserEntity { id: Bytes([3]), display_name: "c", name: "b" }, challenge: Bytes([1]), pub_key_cred_params: [PublicKeyCredentialParameters { ty: PublicKey, alg: ES256 }], timeout: Some(300000), exclude_credentials: Some([PublicKeyCredentialDescriptor { ty: PublicKey, id: Bytes([2]), transports: Some([Usb, Hybrid]) }]), authenticator_selection: Some(AuthenticatorSelectionCriteria { authenticator_attachment: None, resident_key: None, require_resident_key: false, user_verification: Preferred }), hints: Some([Hybrid]), attestation: Direct, attestation_formats: Some([Tpm]), extensions: Some(AuthenticationExtensionsClientInputs { cred_props: None, prf: None, prf_already_hashed: None }) } }"#,
         )],
     );
 }
@@ -37,14 +37,6 @@ fn bytes_are_written_as_numbers(rt: HostRuntime) {
         &[(
             r#"{"publicKey":{"challenge":"AQ","excludeCredentials":[{"type":"public-key","id":"Ag"}],"pubKeyCredParams":[],"rp":{"name":"a"},"user":{"id":"Aw","name":"b","displayName":"c"}}}"#,
             r#"{"publicKey":{"attestation":"none","challenge":[1],"excludeCredentials":[{"id":[2],"type":"public-key"}],"pubKeyCredParams":[],"rp":{"name":"a"},"user":{"displayName":"c","id":[3],"name":"b"}}}"#,
-        )],
-    );
-    assert_rewrites::<CredentialRequestOptions>(
-        &rt,
-        Numbers,
-        &[(
-            r#"{"publicKey":{"allowList":[{"type":"public-key","id":"Ag"}],"challenge":"AQ"}}"#,
-            r#"{"publicKey":{"allowCredentials":[{"id":[2],"type":"public-key"}],"attestation":"none","challenge":[1],"userVerification":"preferred"}}"#,
         )],
     );
 }

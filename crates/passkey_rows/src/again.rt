@@ -6,7 +6,7 @@ use crate::making::{add_parameter, in_base64, insert, point};
 use crate::setting::{iterate, object, set_assertion_outputs, set_creation_outputs};
 use crate::tries::Tries;
 use crate::well_known::well_known;
-use passkey_run::RunFault;
+use passkey_rewrite::RunFault;
 use std::alloc::Global;
 
 /// Returns the output of a row of such a kind. Returns `UnknownKind` if it isn't a row of such a

@@ -1,6 +1,6 @@
 //! Data items, authenticator data and messages: decoded, and encoded with copies of their parts.
 use crate::tries::Tries;
-use passkey_run::RunFault;
+use passkey_rewrite::RunFault;
 use passkey_types::OutOfMemory;
 use passkey_types::cbor::Value;
 use passkey_types::cose::{CoseError, CoseKey};

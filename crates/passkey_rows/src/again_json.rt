@@ -1,6 +1,6 @@
 //! JSON records: decoded, and encoded with copies of their parts, in both forms of bytes.
 use crate::tries::Tries;
-use passkey_run::{JsonKind, RunFault, of_json_kind};
+use passkey_rewrite::{JsonKind, RunFault, of_json_kind};
 use passkey_types::OutOfMemory;
 use passkey_types::json::{Error, Value};
 use passkey_types::webauthn::{

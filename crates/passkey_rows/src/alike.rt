@@ -2,7 +2,7 @@
 use crate::decoding::{Source, decode_as};
 use crate::tries::Tries;
 use passkey_catalogue::Kind;
-use passkey_run::RunFault;
+use passkey_rewrite::RunFault;
 use passkey_types::OutOfMemory;
 use passkey_types::cbor::item_len;
 use passkey_types::ctap2::Fault;

@@ -1,6 +1,6 @@
 //! Attestation statements, and the two structures in that of a TPM.
 use crate::hexadecimal::{decode, encode, item_of, item_text};
-use passkey_run::RunFault;
+use passkey_rewrite::RunFault;
 use passkey_types::attestation::{
     AttestationStatement, CertInfo, CompoundElement, EncodeError, PubArea, StatementFault,
     TpmStatement,

@@ -1,6 +1,6 @@
 //! What pinUvAuthParam authenticates for a request.
 use crate::hexadecimal::{decode, encode};
-use passkey_run::RunFault;
+use passkey_rewrite::RunFault;
 use passkey_types::OutOfMemory;
 use passkey_types::ctap2::{
     Message, bio_enrollment, client_pin, config, credential_management, large_blobs,

@@ -1,7 +1,7 @@
 //! Passkeys from the builder.
 use crate::hexadecimal::{decode, encode};
 use crate::tries::Tries;
-use passkey_run::RunFault;
+use passkey_rewrite::RunFault;
 use passkey_types::cose::iana::KeyType;
 use passkey_types::cose::{CoseKey, Registered};
 use passkey_types::{

@@ -2,7 +2,7 @@
 use crate::again_bytes::{encoded, encoded_item};
 use crate::decoding::from_item;
 use crate::tries::Tries;
-use passkey_run::RunFault;
+use passkey_rewrite::RunFault;
 use passkey_types::OutOfMemory;
 use passkey_types::cbor::Value;
 use passkey_types::ctap2::{FromCbor, Message, Refusal, ToCbor, get_info};

@@ -7,7 +7,7 @@ use crate::setting::first_word;
 use passkey_examples::relying_party::{
     CredentialRecord, Rejected, creation_options, register, request_options, sign_in,
 };
-use passkey_run::RunFault;
+use passkey_rewrite::RunFault;
 use passkey_types::cose::CoseError;
 use passkey_types::ctap2::{Aaguid, AttestedCredentialData, Fault};
 use passkey_types::encoding::try_from_base64url;

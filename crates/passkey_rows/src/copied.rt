@@ -92,6 +92,18 @@ impl Copied for registered::get_info::Response {
     }
 }
 
+impl Copied for registered::make_credential::Request {
+    fn replace_parts(&mut self, alloc: Global, tries: &mut Tries) -> Result<(), OutOfMemory> {
+        tries.replace_some(alloc, &mut self.extensions)
+    }
+}
+
+impl Copied for registered::get_assertion::Request {
+    fn replace_parts(&mut self, alloc: Global, tries: &mut Tries) -> Result<(), OutOfMemory> {
+        tries.replace_some(alloc, &mut self.extensions)
+    }
+}
+
 impl Copied for made::ExtensionInputs {
     fn replace_parts(&mut self, alloc: Global, tries: &mut Tries) -> Result<(), OutOfMemory> {
         tries.replace_some(alloc, &mut self.hmac_secret_mc)

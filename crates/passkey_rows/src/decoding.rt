@@ -2,7 +2,7 @@
 use crate::again_bytes::encoded;
 use crate::tries::Tries;
 use passkey_catalogue::{Form, Kind, visit};
-use passkey_run::{RunFault, Visitor};
+use passkey_rewrite::{RunFault, Visitor};
 use passkey_types::cbor::{CborError, Count, Cursor, Value};
 use passkey_types::ctap2::framing::from_body;
 use passkey_types::ctap2::{Fault, Message};

@@ -3,7 +3,7 @@ use crate::again_bytes::encoded;
 use crate::hexadecimal::{decode, encode, item_of, item_text};
 use crate::setting::first_word;
 use crate::tries::Tries;
-use passkey_run::RunFault;
+use passkey_rewrite::RunFault;
 use passkey_types::cbor::Value;
 use passkey_types::ctap2::registered::extensions::{
     TableRecord, extensions_of, get_assertion as used, make_credential as made, others_of,

@@ -3,7 +3,7 @@ use crate::decoding::{Source, decode_as};
 use crate::hexadecimal::decode;
 use crate::tries::Tries;
 use passkey_catalogue::Kind;
-use passkey_run::RunFault;
+use passkey_rewrite::RunFault;
 use passkey_types::OutOfMemory;
 use passkey_types::cbor::Count;
 use std::alloc::Global;

@@ -1,6 +1,6 @@
 //! Bytes in hexadecimal.
 use hex::FromHexError;
-use passkey_run::RunFault;
+use passkey_rewrite::RunFault;
 use passkey_types::cbor::Value;
 use std::alloc::Global;
 

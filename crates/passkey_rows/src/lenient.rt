@@ -2,7 +2,7 @@
 use crate::again_bytes::encoded;
 use crate::hexadecimal::{decode, encode};
 use crate::tries::Tries;
-use passkey_run::RunFault;
+use passkey_rewrite::RunFault;
 use passkey_types::OutOfMemory;
 use passkey_types::ctap2::repair::{Lenient, Repairable, from_slice_lenient};
 use passkey_types::ctap2::{Message, credential_management, get_assertion, make_credential};

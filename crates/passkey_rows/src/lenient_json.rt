@@ -1,7 +1,7 @@
 //! Records over JSON with their known deviations repaired.
 use crate::again_json::{client_data_text, encoding, parsed};
 use crate::lenient::listed;
-use passkey_run::RunFault;
+use passkey_rewrite::RunFault;
 use passkey_types::OutOfMemory;
 use passkey_types::webauthn::repair::{
     Repair, RepairsJson, from_json_lenient, without_byte_order_mark,

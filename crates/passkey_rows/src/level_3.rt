@@ -1,7 +1,7 @@
 //! What a client takes and gives over JSON beside the records of `passkey_show`.
 use crate::again_json::{client_data_copied, encoding, parsed};
 use passkey_catalogue::{AnyJsonKind, ClientKind, visit_json};
-use passkey_run::{JsonVisitor, RunFault, rewrite_record};
+use passkey_rewrite::{JsonVisitor, RunFault, rewrite_record};
 use passkey_types::json::{JsonRefusal, PlainJsonRecord, ToJson};
 use passkey_types::webauthn::{BytesForm, ClientDataExtra, EnumNames};
 use std::alloc::Global;

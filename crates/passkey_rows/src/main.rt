@@ -38,7 +38,7 @@ use crate::alike::are_decoded_alike;
 use crate::named::named_row;
 use crate::tries::Tries;
 use anyhow::Result;
-use passkey_run::{Kind, RunFault, rewrite};
+use passkey_rewrite::{Kind, RunFault, rewrite};
 use std::alloc::Global;
 use std::io::{BufRead, BufReader, BufWriter, Write};
 

@@ -3,7 +3,7 @@
 use crate::hexadecimal::{decode, encode, item_of};
 use crate::setting::first_word;
 use crate::tries::Tries;
-use passkey_run::RunFault;
+use passkey_rewrite::RunFault;
 use passkey_types::cbor::Value;
 use passkey_types::cose::{CoseError, CoseKey, Label, RefusedKey};
 use passkey_types::encoding::{base64, base64url};

@@ -14,7 +14,7 @@ use crate::platform::platform_row;
 use crate::tries::Tries;
 use crate::ways::{Way, message_row};
 use passkey_catalogue::Kind;
-use passkey_run::RunFault;
+use passkey_rewrite::RunFault;
 use passkey_types::cbor::Value;
 use passkey_types::ctap2::framing::{request_of, response_of};
 use passkey_types::ctap2::large_blobs::{array_of, with_digest};

@@ -1,6 +1,6 @@
 //! Diagnostic notation (RFC 8949, section 8), and where bytes aren't well-formed (section 3).
 use crate::hexadecimal::{decode, item_of};
-use passkey_run::RunFault;
+use passkey_rewrite::RunFault;
 use passkey_types::ctap2::explain::{Malformed, malformed};
 use passkey_types::diagnose::{
     diagnose, diagnose_bytes, diagnose_bytes_indented, diagnose_indented,

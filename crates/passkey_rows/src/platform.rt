@@ -5,7 +5,7 @@ use crate::setting::first_word;
 use passkey_examples::platform::{
     Failed, PinUvAuthProtocol, Transport, credentials_request, token_by_pin,
 };
-use passkey_run::RunFault;
+use passkey_rewrite::RunFault;
 use passkey_types::cose::{CoseError, CoseKey};
 use passkey_types::ctap2::client_pin::Permissions;
 use passkey_types::ctap2::{Fault, WriteFault};

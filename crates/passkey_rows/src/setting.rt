@@ -3,7 +3,7 @@
 use crate::again_bytes::data_again;
 use crate::hexadecimal::{decode, encode};
 use crate::tries::Tries;
-use passkey_run::RunFault;
+use passkey_rewrite::RunFault;
 use passkey_types::ctap2::{
     AttestedCredentialData, AttestedCredentialDataIterator, AuthenticatorData, GivenBack,
     get_assertion, make_credential,

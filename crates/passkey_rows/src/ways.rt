@@ -7,7 +7,7 @@ use crate::heads::{Counts, heads};
 use crate::hexadecimal::{decode, encode};
 use crate::tries::Tries;
 use passkey_catalogue::{CtapKind, Form, Kind, of_ctap_kind};
-use passkey_run::{BytesKind, RunFault, of_bytes_kind};
+use passkey_rewrite::{BytesKind, RunFault, of_bytes_kind};
 use passkey_types::attestation::AttestationFormat;
 use passkey_types::ctap2::extensions::HmacGetSecretInput;
 use passkey_types::ctap2::registered::{self, extensions};

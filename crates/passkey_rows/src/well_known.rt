@@ -1,7 +1,7 @@
 //! The document at `/.well-known/webauthn`.
 use crate::again_json::parsed;
 use crate::tries::Tries;
-use passkey_run::RunFault;
+use passkey_rewrite::RunFault;
 use passkey_types::OutOfMemory;
 use passkey_types::webauthn::WellKnown;
 use std::alloc::Global;
