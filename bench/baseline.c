@@ -77,13 +77,13 @@ static const uint8_t *chunk(Reader *r, uint8_t kind, Head head) {
     return head.kind == kind && head.has_length ? piece(r, kind, head.number) : NULL;
 }
 
-static bool skip_behind(Reader *r, Head head, int levels);
+static bool skip_after(Reader *r, Head head, int levels);
 
-static bool skip(Reader *r, int levels) { return skip_behind(r, decode(r), levels); }
+static bool skip(Reader *r, int levels) { return skip_after(r, decode(r), levels); }
 
 static bool skip_entry(Reader *r, Head list, Head head, int levels) {
     if (list.kind <= 3) return chunk(r, list.kind, head) != NULL;
-    return skip_behind(r, head, levels) && (list.kind == 4 || skip(r, levels));
+    return skip_after(r, head, levels) && (list.kind == 4 || skip(r, levels));
 }
 
 static bool skip_list(Reader *r, Head list, int levels) {
@@ -96,7 +96,7 @@ static bool skip_list(Reader *r, Head list, int levels) {
     }
 }
 
-static bool skip_behind(Reader *r, Head head, int levels) {
+static bool skip_after(Reader *r, Head head, int levels) {
     switch (head.kind) {
     case 0: case 1: case 7: return true;
     case 2: case 3: return head.has_length ? piece(r, head.kind, head.number) != NULL : skip_list(r, head, 0);
@@ -125,11 +125,11 @@ static bool append(Value *v, const uint8_t *at, size_t len) {
     return true;
 }
 
-static bool build_behind(Reader *r, Head head, int levels, Value *out);
+static bool build_after(Reader *r, Head head, int levels, Value *out);
 
 static bool build_part(Reader *r, Head head, int levels, Value *list) {
     if (!grow(list, sizeof(Value))) return false;
-    return build_behind(r, head, levels, (Value *)list->parts + list->count++);
+    return build_after(r, head, levels, (Value *)list->parts + list->count++);
 }
 
 static bool build_entry(Reader *r, Head list, Head head, int levels, Value *out) {
@@ -148,7 +148,7 @@ static bool build_list(Reader *r, Head list, int levels, Value *out) {
 }
 
 /* Fills in a value, also where it answers false: then with what was built. */
-static bool build_behind(Reader *r, Head head, int levels, Value *out) {
+static bool build_after(Reader *r, Head head, int levels, Value *out) {
     *out = (Value){head.kind, head.number, 0, NULL};
     switch (head.kind) {
     case 0: case 1: case 7: return true;
@@ -175,7 +175,7 @@ static size_t skip_len(const uint8_t *bytes, size_t len) {
 static size_t build_len(const uint8_t *bytes, size_t len) {
     Reader r = {bytes, bytes + len};
     Value v;
-    bool found = build_behind(&r, decode(&r), LEVELS, &v);
+    bool found = build_after(&r, decode(&r), LEVELS, &v);
     release(&v);
     return found ? (size_t)(r.at - bytes) : 0;
 }

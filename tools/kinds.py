@@ -7,8 +7,8 @@ CRATES = Path(__file__).resolve().parent.parent / "crates"
 
 # The tables, in the order of their numbers in C: each enumeration, its file, and whether it is one of JSON texts.
 TABLES = [
-    ("BytesKind", "passkey_run/src/kind.rt", False),
-    ("JsonKind", "passkey_run/src/kind.rt", True),
+    ("BytesKind", "passkey_rewrite/src/kind.rt", False),
+    ("JsonKind", "passkey_rewrite/src/kind.rt", True),
     ("CtapKind", "passkey_catalogue/src/ctap_kind.rt", False),
     ("ClientKind", "passkey_catalogue/src/client_kind.rt", True),
 ]

@@ -28,7 +28,7 @@ HEAP = Path(__file__).with_name("wasm_heap.h")
 
 FRONT_OF_LOOK = """\
 /* puffgrit_look.c: the calls of puffgrit.h that look at data items and authenticator data, for any compiler of C99. It calls no function,
-   takes no memory but the stack, and has nothing that changes. Made by tools/release from crates/passkey_look_c; Puffgrit's
+   takes no memory but the stack, and has nothing that changes. Made by tools/release from crates/passkey_view_c; Puffgrit's
    bindings/c/README.md says what is proved, and what is trusted. MIT or Apache-2.0. */
 #include "puffgrit.h"
 
@@ -36,7 +36,7 @@ FRONT_OF_LOOK = """\
 FRONT = """\
 /* puffgrit.c: all calls of puffgrit.h, for any compiler of C99 for a little-endian machine. It calls malloc, realloc and free, or what
    PUFFGRIT_MALLOC, PUFFGRIT_REALLOC and PUFFGRIT_FREE are defined as, and has nothing that changes. Made by tools/release from
-   crates/passkey_c and crates/passkey_look_c; Puffgrit's bindings/c/README.md says what is proved, and what is trusted. MIT or
+   crates/passkey_c and crates/passkey_view_c; Puffgrit's bindings/c/README.md says what is proved, and what is trusted. MIT or
    Apache-2.0. */
 #include "puffgrit.h"
 
@@ -56,8 +56,8 @@ class Part:
     before: str = ""
 
 
-LOOK = Part(["passkey_look_c"], FRONT_OF_LOOK, 131072)
-ALL = Part(["passkey_c", "passkey_look_c"], FRONT, 1 << 20, HEAP.read_text(encoding="utf-8"))
+LOOK = Part(["passkey_view_c"], FRONT_OF_LOOK, 131072)
+ALL = Part(["passkey_c", "passkey_view_c"], FRONT, 1 << 20, HEAP.read_text(encoding="utf-8"))
 
 # What the bitcode says of functions that is about x86-64.
 OF_X86 = r' ?"(?:probe-stack|stack-probe-size|target-cpu)"="[^"]*"'

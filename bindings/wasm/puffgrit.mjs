@@ -1,4 +1,4 @@
-// Data items of CBOR and authenticator data, looked at by proved code (crates/passkey_look_c) as WebAssembly.
+// Data items of CBOR and authenticator data, looked at by proved code (crates/passkey_view_c) as WebAssembly.
 //
 // Bytes are a Uint8Array, which is copied into the module's memory for each call; offsets and lengths are numbers, and an item's
 // number is a BigInt. What isn't there is null. An argument of another type is a TypeError, and a number that is no offset, or no

@@ -1,5 +1,5 @@
 /* puffgrit_look.c: the calls of puffgrit.h that look at data items and authenticator data, for any compiler of C99. It calls no function,
-   takes no memory but the stack, and has nothing that changes. Made by tools/release from crates/passkey_look_c; Puffgrit's
+   takes no memory but the stack, and has nothing that changes. Made by tools/release from crates/passkey_view_c; Puffgrit's
    bindings/c/README.md says what is proved, and what is trusted. MIT or Apache-2.0. */
 #include "puffgrit.h"
 
@@ -147,20 +147,21 @@ static void Cursor_decode_long_16(uint64_t, uint64_t);
 static void Cursor_pass_chunks_17(uint64_t, uint64_t, uint32_t);
 static void Head_decode_18(uint64_t, uint64_t, uint64_t);
 static void Cursor_chunk_19(uint64_t, uint64_t, uint32_t, uint64_t);
-static void canonical_behind_item_20(uint64_t, uint64_t, uint64_t, uint64_t);
-static void canonical_behind_string_21(uint64_t, uint32_t, uint64_t, uint64_t, uint64_t);
-static void canonical_behind_items_22(uint64_t, uint64_t, uint64_t, uint64_t, uint64_t);
-static void canonical_behind_pairs_23(uint64_t, uint64_t, uint64_t, uint64_t, uint64_t);
+static void canonical_after_item_20(uint64_t, uint64_t, uint64_t, uint64_t);
+static void canonical_after_string_21(uint64_t, uint32_t, uint64_t, uint64_t, uint64_t);
+static void canonical_after_items_22(uint64_t, uint64_t, uint64_t, uint64_t, uint64_t);
+static void canonical_after_pairs_23(uint64_t, uint64_t, uint64_t, uint64_t, uint64_t);
 static void client_data_after_string_24(uint64_t, uint64_t, uint64_t, uint64_t, uint64_t);
 static void client_data_after_25(uint64_t, uint64_t, uint64_t, uint64_t, uint64_t);
 static uint32_t scan_any_in_ends_26(uint64_t, uint64_t, uint64_t);
 static uint32_t scan_any_in_quarters_27(uint64_t, uint64_t, uint64_t);
 static uint32_t item_fill_28(uint64_t, uint64_t);
 static uint32_t Cursor_more_29(uint64_t, uint64_t);
-static void Cursor_other_string_30(uint64_t, uint64_t);
-static uint32_t names_place_of_31(uint64_t, uint64_t, uint64_t);
-static uint32_t slices_groups_equal_32(uint64_t, uint64_t, uint64_t, uint64_t);
-static void names_behind_33(uint64_t, uint64_t, uint64_t, uint64_t, uint64_t);
+static void Cursor_other_text_30(uint64_t, uint64_t);
+static void Cursor_other_string_31(uint64_t, uint64_t);
+static uint32_t names_place_of_32(uint64_t, uint64_t, uint64_t);
+static uint32_t slices_groups_equal_33(uint64_t, uint64_t, uint64_t, uint64_t);
+static void names_following_34(uint64_t, uint64_t, uint64_t, uint64_t, uint64_t);
 static uint32_t code_puffgrit_auth_parts(uint64_t, uint64_t, uint64_t);
 static uint32_t code_puffgrit_is_canonical(uint64_t, uint64_t);
 static uint32_t code_puffgrit_is_client_data(uint64_t, uint64_t, uint64_t, uint64_t, uint64_t, uint64_t, uint64_t, uint64_t, uint64_t, uint64_t, uint32_t);
@@ -1623,7 +1624,7 @@ static void Cursor_chunk_19(uint64_t a0, uint64_t a1, uint32_t a2, uint64_t a3) 
     st64(a0 + 8ull, v7);
 }
 
-static void canonical_behind_item_20(uint64_t a0, uint64_t a1, uint64_t a2, uint64_t a3) {
+static void canonical_after_item_20(uint64_t a0, uint64_t a1, uint64_t a2, uint64_t a3) {
     FRAME(frame, 64);
     uint32_t v7 = 0, v9 = 0, v10 = 0, v11 = 0;
     uint64_t v4 = 0, v5 = 0, v6 = 0, v8 = 0;
@@ -1720,17 +1721,17 @@ static void canonical_behind_item_20(uint64_t a0, uint64_t a1, uint64_t a2, uint
     goto L14;
   L11:;
     if ((v7 & 255u) != 1u) goto L18;
-    canonical_behind_string_21(v4 + 16ull, 1u, v8, v5, v6);
+    canonical_after_string_21(v4 + 16ull, 1u, v8, v5, v6);
     goto L14;
   L12:;
     if ((v7 & 255u) != 1u) goto L18;
     if (a3 == 0) goto L18;
-    canonical_behind_items_22(v4 + 16ull, v5, v6, v8, a3 - 1ull);
+    canonical_after_items_22(v4 + 16ull, v5, v6, v8, a3 - 1ull);
     goto L14;
   L13:;
     if ((v7 & 255u) != 1u) goto L18;
     if (a3 == 0) goto L18;
-    canonical_behind_pairs_23(v4 + 16ull, v5, v6, v8, a3 - 1ull);
+    canonical_after_pairs_23(v4 + 16ull, v5, v6, v8, a3 - 1ull);
     goto L14;
   L18:;
     v5 = 0ull;
@@ -1751,7 +1752,7 @@ static void canonical_behind_item_20(uint64_t a0, uint64_t a1, uint64_t a2, uint
     st64(a0 + 16ull, ld64(v4 + 8u));
 }
 
-static void canonical_behind_string_21(uint64_t a0, uint32_t a1, uint64_t a2, uint64_t a3, uint64_t a4) {
+static void canonical_after_string_21(uint64_t a0, uint32_t a1, uint64_t a2, uint64_t a3, uint64_t a4) {
     uint64_t v5 = 0, v6 = 0;
     if (a4 < a2) goto L1;
     v5 = a4 - a2;
@@ -1811,7 +1812,7 @@ static void canonical_behind_string_21(uint64_t a0, uint32_t a1, uint64_t a2, ui
     st64(a0 + 8ull, v6);
 }
 
-static void canonical_behind_items_22(uint64_t a0, uint64_t a1, uint64_t a2, uint64_t a3, uint64_t a4) {
+static void canonical_after_items_22(uint64_t a0, uint64_t a1, uint64_t a2, uint64_t a3, uint64_t a4) {
     FRAME(frame, 32);
     uint64_t v5 = 0;
     v5 = FRAME_AT(frame);
@@ -1820,7 +1821,7 @@ static void canonical_behind_items_22(uint64_t a0, uint64_t a1, uint64_t a2, uin
     st64(v5 + 8u, 0ull);
     if (a3 == 0) goto L1;
   L2:;
-    canonical_behind_item_20(v5 + 8ull, a1, a2, a4);
+    canonical_after_item_20(v5 + 8ull, a1, a2, a4);
     if (ld8(v5 + 8u) != 1u) goto L3;
     a2 = ld64(v5 + 24u);
     a1 = ld64(v5 + 16u);
@@ -1838,7 +1839,7 @@ static void canonical_behind_items_22(uint64_t a0, uint64_t a1, uint64_t a2, uin
   L4:;
 }
 
-static void canonical_behind_pairs_23(uint64_t a0, uint64_t a1, uint64_t a2, uint64_t a3, uint64_t a4) {
+static void canonical_after_pairs_23(uint64_t a0, uint64_t a1, uint64_t a2, uint64_t a3, uint64_t a4) {
     FRAME(frame, 32);
     uint32_t v9 = 0, v13 = 0, v20 = 0, v21 = 0, v22 = 0;
     uint64_t v5 = 0, v6 = 0, v7 = 0, v8 = 0, v10 = 0, v11 = 0, v12 = 0, v14 = 0, v15 = 0, v16 = 0, v17 = 0, v18 = 0, v19 = 0;
@@ -1854,7 +1855,7 @@ static void canonical_behind_pairs_23(uint64_t a0, uint64_t a1, uint64_t a2, uin
     v8 = 0ull;
     v9 = 1u;
   L3:;
-    canonical_behind_item_20(v5 + 8ull, a1, a2, a4);
+    canonical_after_item_20(v5 + 8ull, a1, a2, a4);
     if (ld8(v5 + 8u) != 1u) goto L4;
     v10 = ld64(v5 + 24u);
     v11 = a2 - v10;
@@ -1924,7 +1925,7 @@ static void canonical_behind_pairs_23(uint64_t a0, uint64_t a1, uint64_t a2, uin
     st64(a0, 0ull);
     goto L14;
   L5:;
-    canonical_behind_item_20(v5 + 8ull, v12, v10, a4);
+    canonical_after_item_20(v5 + 8ull, v12, v10, a4);
     if (ld8(v5 + 8u) != 1u) goto L15;
     v9 = 0u;
     a2 = ld64(v5 + 24u);
@@ -2328,7 +2329,36 @@ static uint32_t Cursor_more_29(uint64_t a0, uint64_t a1) {
     return v3;
 }
 
-static void Cursor_other_string_30(uint64_t a0, uint64_t a1) {
+static void Cursor_other_text_30(uint64_t a0, uint64_t a1) {
+    FRAME(frame, 64);
+    uint64_t v2 = 0, v3 = 0, v4 = 0;
+    v2 = FRAME_AT(frame);
+    v3 = 0ull;
+    st64(v2 + 56u, 0ull);
+    st64(v2 + 48u, 0ull);
+    st64(v2 + 40u, 0ull);
+    st64(v2 + 32u, 0ull);
+    st64(v2 + 24u, 0ull);
+    st64(v2 + 16u, 0ull);
+    st64(v2, 0ull);
+    st64(v2 + 8u, 0ull);
+    Cursor_other_string_31(v2 + 16ull, a1);
+    a1 = 0ull;
+    v4 = (uint64_t)ld8(v2 + 16u);
+    if (v4 == 0) goto L1;
+    st64(v2, ld64(v2 + 40u));
+    st64(v2 + 8u, ld64(v2 + 48u));
+    v3 = (uint64_t)ld8(v2 + 24u);
+    a1 = ld64(v2 + 32u);
+  L1:;
+    st64(a0, v4);
+    st64(a0 + 16ull, a1);
+    st64(a0 + 8ull, v3);
+    st64(a0 + 24ull, ld64(v2));
+    st64(a0 + 32ull, ld64(v2 + 8u));
+}
+
+static void Cursor_other_string_31(uint64_t a0, uint64_t a1) {
     FRAME(frame, 48);
     uint32_t v4 = 0, v5 = 0, v6 = 0, v7 = 0;
     uint64_t v2 = 0, v3 = 0, v8 = 0, v9 = 0, v10 = 0, v11 = 0, v12 = 0, v13 = 0, v14 = 0;
@@ -2437,7 +2467,7 @@ static void Cursor_other_string_30(uint64_t a0, uint64_t a1) {
     st64(a0 + 8ull, v10);
 }
 
-static uint32_t names_place_of_31(uint64_t a0, uint64_t a1, uint64_t a2) {
+static uint32_t names_place_of_32(uint64_t a0, uint64_t a1, uint64_t a2) {
     uint32_t v3 = 0;
     uint64_t v4 = 0;
     if (ld64(a0 + 8ull) != a2) goto L1;
@@ -2448,7 +2478,7 @@ static uint32_t names_place_of_31(uint64_t a0, uint64_t a1, uint64_t a2) {
     if ((ld8(a0 + 2ull) & 255u) != (ld8(a1 + 2ull) & 255u)) goto L1;
     if ((ld8(a0 + 3ull) & 255u) != (ld8(a1 + 3ull) & 255u)) goto L1;
     v3 = 1u;
-    const uint32_t t1 = slices_groups_equal_32(a0, a2, a1, a2);
+    const uint32_t t1 = slices_groups_equal_33(a0, a2, a1, a2);
     if (t1 == 0) goto L1;
     goto L3;
   L2:;
@@ -2470,7 +2500,7 @@ static uint32_t names_place_of_31(uint64_t a0, uint64_t a1, uint64_t a2) {
     return v3;
 }
 
-static uint32_t slices_groups_equal_32(uint64_t a0, uint64_t a1, uint64_t a2, uint64_t a3) {
+static uint32_t slices_groups_equal_33(uint64_t a0, uint64_t a1, uint64_t a2, uint64_t a3) {
     FRAME(frame, 32);
     uint32_t v5 = 0;
     uint64_t v4 = 0, v6 = 0, v7 = 0, v8 = 0, v9 = 0, v10 = 0, v11 = 0;
@@ -2550,7 +2580,7 @@ static uint32_t slices_groups_equal_32(uint64_t a0, uint64_t a1, uint64_t a2, ui
     return (v5 ^ 0xffffffffu) & 1u;
 }
 
-static void names_behind_33(uint64_t a0, uint64_t a1, uint64_t a2, uint64_t a3, uint64_t a4) {
+static void names_following_34(uint64_t a0, uint64_t a1, uint64_t a2, uint64_t a3, uint64_t a4) {
     uint64_t v5 = 0;
     if (a2 >= a4) goto L1;
     st64(a0 + 16u, 0ull);
@@ -2563,7 +2593,7 @@ static void names_behind_33(uint64_t a0, uint64_t a1, uint64_t a2, uint64_t a3, 
     if ((ld8(a1 + 1ull) & 255u) != (ld8(a3 + 1ull) & 255u)) goto L3;
     if ((ld8(a1 + 2ull) & 255u) != (ld8(a3 + 2ull) & 255u)) goto L3;
     if ((ld8(a1 + 3ull) & 255u) != (ld8(a3 + 3ull) & 255u)) goto L3;
-    const uint32_t t1 = slices_groups_equal_32(a1, a4, a3, a4);
+    const uint32_t t1 = slices_groups_equal_33(a1, a4, a3, a4);
     if (t1 == 0) goto L3;
     goto L4;
   L2:;
@@ -2664,7 +2694,7 @@ static uint32_t code_puffgrit_is_canonical(uint64_t a0, uint64_t a1) {
     st64(v2 + 24u, 0ull);
     st64(v2 + 16u, 0ull);
     st64(v2 + 8u, 0ull);
-    canonical_behind_item_20(v2 + 8ull, a0 + ((a0 == 0) ? 4096ull : 0ull), a1, 256ull);
+    canonical_after_item_20(v2 + 8ull, a0 + ((a0 == 0) ? 4096ull : 0ull), a1, 256ull);
     v3 = ld8(v2 + 8u);
     a0 = ld64(v2 + 24u);
     return (uint32_t)(v3 != 0u) & (uint32_t)(a0 == 0);
@@ -3061,8 +3091,8 @@ static uint32_t code_puffgrit_member(uint64_t a0, uint64_t a1, uint64_t a2, uint
 
 static uint32_t code_puffgrit_named(uint64_t a0, uint64_t a1, uint64_t a2, uint64_t a3, uint64_t a4, uint64_t a5) {
     FRAME(frame, 560);
-    uint32_t v7 = 0, v16 = 0, v17 = 0, v18 = 0;
-    uint64_t v6 = 0, v8 = 0, v9 = 0, v10 = 0, v11 = 0, v12 = 0, v13 = 0, v14 = 0, v15 = 0, v19 = 0;
+    uint32_t v7 = 0, v17 = 0, v18 = 0;
+    uint64_t v6 = 0, v8 = 0, v9 = 0, v10 = 0, v11 = 0, v12 = 0, v13 = 0, v14 = 0, v15 = 0, v16 = 0;
     v6 = FRAME_AT(frame);
     st64(v6 + 56u, 0ull);
     st64(v6 + 64u, 0ull);
@@ -3130,90 +3160,66 @@ static uint32_t code_puffgrit_named(uint64_t a0, uint64_t a1, uint64_t a2, uint6
   L7:;
     const uint32_t t1 = Cursor_more_29(v6 + 128ull, v6 + 248ull);
     if (t1 == 0) goto L6;
-    st64(v6 + 376u, 0ull);
-    st64(v6 + 368u, 0ull);
-    st64(v6 + 360u, 0ull);
-    st64(v6 + 352u, 0ull);
-    st64(v6 + 344u, 0ull);
-    st64(v6 + 336u, 0ull);
     v13 = ld64(v6 + 136u);
     a0 = ld64(v6 + 144u);
     if (v13 == a0) goto L8;
-    v14 = ld64(v6 + 128u);
-    v15 = v14 + a0;
-    v16 = ld8(v15);
-    v7 = v16 & 31u;
-    if (v7 < 24u) goto L9;
+    v14 = 1ull;
+    v15 = ld64(v6 + 128u);
+    v16 = v15 + a0;
+    v17 = ld8(v16);
+    v7 = v17 - 96u;
+    if ((v7 & 255u) < 24u) goto L9;
     if ((v13 - a0) < 2ull) goto L8;
-    if (v7 != 24u) goto L8;
-    v17 = ld8(v15 + 1u);
-    v7 = 0u;
-    v15 = 2ull;
-    v16 = v16 >> 5;
-    v18 = 1u << (v16 & 31);
-    if (v18 & 60u) goto L10;
-    if (v18 & 67u) goto L11;
-    goto L8;
+    if ((v17 & 255u) != 120u) goto L8;
+    v7 = ld8(v16 + 1u);
+    v14 = 2ull;
   L9:;
-    v16 = v16 >> 5;
-    if (v16 == 7u) goto L8;
-    v18 = (uint32_t)((v16 - 2u) < 4u);
-    v17 = v18 ? 1u : v7;
-    v7 = v18 ? v7 : 0u;
-    v15 = 1ull;
-    goto L11;
-  L10:;
-    v7 = v17;
-    v17 = 1u;
-  L11:;
-    if (v16 != 3u) goto L8;
-    if ((v17 & 255u) != 1u) goto L8;
-    a0 = v15 + a0;
+    a0 = v14 + a0;
     const uint64_t t2 = v13 - a0;
     v13 = (uint64_t)v7 & 255ull;
     if (t2 < v13) goto L8;
-    v15 = v14 + a0;
+    v14 = v15 + a0;
     v7 = v7 & 255u;
-    if (v7 > 7u) goto L12;
-    if (v7 == 0) goto L13;
-    if (less_s32(extend8_32(ld8(v15)), 0u)) goto L8;
-    if (v7 == 1u) goto L13;
-    if (less_s32(extend8_32(ld8(v15 + 1ull)), 0u)) goto L8;
-    if (v7 == 2u) goto L13;
-    if (less_s32(extend8_32(ld8(v15 + 2ull)), 0u)) goto L8;
-    if (v7 == 3u) goto L13;
-    if (less_s32(extend8_32(ld8(v15 + 3ull)), 0u)) goto L8;
-    if (v7 == 4u) goto L13;
-    if (less_s32(extend8_32(ld8(v15 + 4ull)), 0u)) goto L8;
-    if (v7 == 5u) goto L13;
-    if (less_s32(extend8_32(ld8(v15 + 5ull)), 0u)) goto L8;
-    if (v7 == 6u) goto L13;
-    if (less_s32(extend8_32(ld8(v15 + 6ull)), 0u)) goto L8;
-    if (v7 != 7u) goto L8;
-    goto L13;
-  L12:;
+    if (v7 > 7u) goto L10;
+    if (v7 == 0) goto L11;
+    if (less_s32(extend8_32(ld8(v14)), 0u)) goto L8;
+    if (v7 == 1u) goto L11;
+    if (less_s32(extend8_32(ld8(v14 + 1ull)), 0u)) goto L8;
+    if (v7 == 2u) goto L11;
+    if (less_s32(extend8_32(ld8(v14 + 2ull)), 0u)) goto L8;
+    if (v7 == 3u) goto L11;
+    if (less_s32(extend8_32(ld8(v14 + 3ull)), 0u)) goto L8;
+    if (v7 == 4u) goto L11;
+    if (less_s32(extend8_32(ld8(v14 + 4ull)), 0u)) goto L8;
+    if (v7 == 5u) goto L11;
+    if (less_s32(extend8_32(ld8(v14 + 5ull)), 0u)) goto L8;
+    if (v7 == 6u) goto L11;
+    if (less_s32(extend8_32(ld8(v14 + 6ull)), 0u)) goto L8;
+    if (v7 == 7u) goto L11;
+    goto L8;
+  L10:;
     if (v7 > 64u) goto L8;
-    const uint32_t t3 = u8_is_ascii_8(v15, v13);
+    const uint32_t t3 = u8_is_ascii_8(v14, v13);
     if (t3 == 0) goto L8;
-  L13:;
+  L11:;
     st64(v6 + 144u, a0 + v13);
     a0 = ld64(v6 + 160u) + 1ull;
-    v14 = ld64(v6 + 168u) + (uint64_t)(uint32_t)(a0 == 0);
-    v7 = (uint32_t)((a0 | v14) == 0);
+    v15 = ld64(v6 + 168u) + (uint64_t)(uint32_t)(a0 == 0);
+    v7 = (uint32_t)((a0 | v15) == 0);
     st64(v6 + 160u, v7 ? 0xffffffffffffffffull : a0);
-    st64(v6 + 168u, v7 ? 0xffffffffffffffffull : v14);
+    st64(v6 + 168u, v7 ? 0xffffffffffffffffull : v15);
     st64(v6 + 328u, v8);
     st64(v6 + 320u, v9);
-    goto L14;
+    goto L12;
   L8:;
-    Cursor_other_string_30(v6 + 336ull, v6 + 128ull);
-    if (ld8(v6 + 336u) != 1u) goto L15;
+    Cursor_other_text_30(v6 + 336ull, v6 + 128ull);
+    if (ld8(v6 + 336u) != 1u) goto L13;
     v13 = ld64(v6 + 368u);
-    v15 = ld64(v6 + 360u);
+    v14 = ld64(v6 + 360u);
     v7 = ld8(v6 + 344u);
     st64(v6 + 328u, v8);
     st64(v6 + 320u, v9);
-    if ((v7 & 255u) == 1u) goto L14;
+    if ((v7 & 255u) == 1u) goto L12;
     a0 = 0ull;
     st64(v12, 0ull);
     st64(v12 + 8u, 0ull);
@@ -3222,7 +3228,7 @@ static uint32_t code_puffgrit_named(uint64_t a0, uint64_t a1, uint64_t a2, uint6
     st64(v12 + 32u, 0ull);
     st64(v12 + 40u, 0ull);
     st64(v6 + 344u, v13);
-    st64(v6 + 336u, v15);
+    st64(v6 + 336u, v14);
     st64(v6 + 456u, 0ull);
     st64(v6 + 464u, 0ull);
     st64(v6 + 472u, 0ull);
@@ -3232,8 +3238,8 @@ static uint32_t code_puffgrit_named(uint64_t a0, uint64_t a1, uint64_t a2, uint6
     st64(v6 + 408u, 0ull);
     st64(v6 + 416u, 0ull);
     st64(v6 + 424u, 0ull);
-    v15 = DATA + 74ull;
-  L16:;
+    v14 = DATA + 74ull;
+  L14:;
     st64(v6 + 536u, 0ull);
     st64(v6 + 544u, 0ull);
     st64(v6 + 550u, 0ull);
@@ -3245,100 +3251,100 @@ static uint32_t code_puffgrit_named(uint64_t a0, uint64_t a1, uint64_t a2, uint6
     st64(v6 + 512u, 0ull);
     st64(v6 + 504u, 0ull);
     v13 = ld64(v6 + 352u);
-    if (v13 >= ld64(v6 + 344u)) goto L17;
+    if (v13 >= ld64(v6 + 344u)) goto L15;
     v7 = ld8(ld64(v6 + 336u) + v13);
-    v16 = v7 & 31u;
-    if (v16 > 23u) goto L17;
-    v14 = 0ull;
+    v17 = v7 & 31u;
+    if (v17 > 23u) goto L15;
+    v15 = 0ull;
     v7 = v7 >> 5;
-    if (v7 != 7u) goto L18;
-    v19 = 0ull;
-    goto L19;
-  L18:;
-    v14 = (uint64_t)v16;
-    v16 = (uint32_t)((v7 - 2u) < 4u);
-    v19 = v16 ? 1ull : v14;
-    v14 = v16 ? v14 : 0ull;
-    v16 = 0u;
-  L19:;
-    st64(v6 + 520u, v19);
+    if (v7 != 7u) goto L16;
+    v16 = 0ull;
+    goto L17;
+  L16:;
+    v15 = (uint64_t)v17;
+    v17 = (uint32_t)((v7 - 2u) < 4u);
+    v16 = v17 ? 1ull : v15;
+    v15 = v17 ? v15 : 0ull;
+    v17 = 0u;
+  L17:;
+    st64(v6 + 520u, v16);
     st64(a3, ld64(v11));
-    st64(v6 + 528u, v14);
+    st64(v6 + 528u, v15);
     st64(a3 + 8u, ld64(v11 + 8u));
     st64(v6 + 352u, v13 + 1ull);
     v13 = ld64(v6 + 368u) + 1ull;
-    v14 = ld64(v6 + 376u) + (uint64_t)(uint32_t)(v13 == 0);
-    v17 = (uint32_t)((v13 | v14) == 0);
-    st64(v6 + 368u, v17 ? 0xffffffffffffffffull : v13);
-    st64(v6 + 376u, v17 ? 0xffffffffffffffffull : v14);
+    v15 = ld64(v6 + 376u) + (uint64_t)(uint32_t)(v13 == 0);
+    v18 = (uint32_t)((v13 | v15) == 0);
+    st64(v6 + 368u, v18 ? 0xffffffffffffffffull : v13);
+    st64(v6 + 376u, v18 ? 0xffffffffffffffffull : v15);
     st64(a4 + 8u, ld64(a3 + 8u));
     st64(a4, ld64(a3));
-    goto L20;
-  L17:;
+    goto L18;
+  L15:;
     Cursor_decode_long_16(v6 + 504ull, v6 + 336ull);
     st64(a3, ld64(v11));
     st64(a3 + 8u, ld64(v11 + 8u));
-    if (ld8(v6 + 504u)) goto L21;
+    if (ld8(v6 + 504u)) goto L19;
     v7 = 0u;
-    goto L22;
-  L21:;
-    v16 = ld8(v6 + 513u);
+    goto L20;
+  L19:;
+    v17 = ld8(v6 + 513u);
     v7 = ld8(v6 + 512u);
     st64(a4 + 8u, ld64(a3 + 8u));
     st64(a4, ld64(a3));
-    if ((v7 & 255u) != 9u) goto L20;
-    const uint32_t t4 = names_place_of_31(v6 + 320ull, v15, a0);
+    if ((v7 & 255u) != 9u) goto L18;
+    const uint32_t t4 = names_place_of_32(v6 + 320ull, v14, a0);
     v7 = t4;
-    goto L22;
-  L20:;
+    goto L20;
+  L18:;
     st64(a1 + 8u, ld64(a4 + 8u));
     st64(a1, ld64(a4));
     st64(v10, ld64(a1));
     st64(v10 + 8u, ld64(a1 + 8u));
-    st8(v6 + 457u, v16);
+    st8(v6 + 457u, v17);
     st8(v6 + 456u, v7);
     Cursor_chunk_19(v6 + 408ull, v6 + 336ull, 1u, v6 + 456ull);
     v7 = 0u;
-    if (ld8(v6 + 408u) == 0) goto L22;
+    if (ld8(v6 + 408u) == 0) goto L20;
     v13 = ld64(v6 + 424u);
-    v14 = ld64(v6 + 416u);
+    v15 = ld64(v6 + 416u);
     st64(v6 + 504u, 0ull);
     st64(v6 + 512u, 0ull);
     st64(v6 + 520u, 0ull);
     st64(v6 + 536u, 0ull);
     st64(v6 + 544u, 0ull);
     st64(v6 + 552u, 0ull);
-    names_behind_33(v6 + 504ull, v9, v8, v15, a0);
-    if (ld8(v6 + 504u) == 0) goto L22;
-    names_behind_33(v6 + 536ull, ld64(v6 + 512u), ld64(v6 + 520u), v14, v13);
+    names_following_34(v6 + 504ull, v9, v8, v14, a0);
+    if (ld8(v6 + 504u) == 0) goto L20;
+    names_following_34(v6 + 536ull, ld64(v6 + 512u), ld64(v6 + 520u), v15, v13);
     a0 = v13 + a0;
-    v15 = v9;
-    if (ld8(v6 + 536u) == 1u) goto L16;
-  L22:;
+    v14 = v9;
+    if (ld8(v6 + 536u) == 1u) goto L14;
+  L20:;
     a0 = ld64(v6 + 368u);
     v13 = a0 + ld64(v6 + 160u);
-    v16 = (uint32_t)(v13 < a0);
+    v17 = (uint32_t)(v13 < a0);
     a0 = ld64(v6 + 376u);
     const uint64_t t5 = v13;
-    v13 = (a0 + ld64(v6 + 168u)) + (uint64_t)v16;
-    v16 = (v13 == a0) ? v16 : (uint32_t)(v13 < a0);
-    st64(v6 + 160u, v16 ? 0xffffffffffffffffull : t5);
-    st64(v6 + 168u, v16 ? 0xffffffffffffffffull : v13);
-    goto L23;
-  L15:;
+    v13 = (a0 + ld64(v6 + 168u)) + (uint64_t)v17;
+    v17 = (v13 == a0) ? v17 : (uint32_t)(v13 < a0);
+    st64(v6 + 160u, v17 ? 0xffffffffffffffffull : t5);
+    st64(v6 + 168u, v17 ? 0xffffffffffffffffull : v13);
+    goto L21;
+  L13:;
     const uint32_t t6 = Cursor_skip_4(v6 + 128ull);
     if (t6 == 0) goto L6;
-    goto L24;
-  L14:;
-    const uint32_t t7 = names_place_of_31(v6 + 320ull, v15, v13);
+    goto L22;
+  L12:;
+    const uint32_t t7 = names_place_of_32(v6 + 320ull, v14, v13);
     v7 = t7;
-  L23:;
-    if ((v7 & 255u) == 1u) goto L25;
-  L24:;
+  L21:;
+    if ((v7 & 255u) == 1u) goto L23;
+  L22:;
     const uint32_t t8 = Cursor_skip_4(v6 + 128ull);
     if (t8 == 0) goto L6;
     goto L7;
-  L25:;
+  L23:;
     item_view_view_ahead_3(v6 + 264ull, v6 + 128ull);
     st64(v6 + 504u, ld64(v6 + 274u));
     st64(v6 + 512u, ld64(v6 + 282u));
@@ -3348,7 +3354,7 @@ static uint32_t code_puffgrit_named(uint64_t a0, uint64_t a1, uint64_t a2, uint6
     a4 = ld64(v6 + 312u);
     a1 = ld64(v6 + 304u);
     v13 = ld64(v6 + 296u);
-    v16 = ld8(v6 + 273u);
+    v17 = ld8(v6 + 273u);
     v7 = ld8(v6 + 272u);
     a0 = ld64(v6 + 518u);
     st64(v6 + 350u, a0);
@@ -3365,17 +3371,17 @@ static uint32_t code_puffgrit_named(uint64_t a0, uint64_t a1, uint64_t a2, uint6
     a0 = a4 + a2;
     a1 = a1 + a2;
     a4 = v13 + a2;
-    goto L26;
+    goto L24;
   L6:;
     v7 = 0u;
     a3 = 0ull;
   L5:;
-    v16 = 0u;
+    v17 = 0u;
     a4 = 0ull;
     a1 = 0ull;
     a0 = 0ull;
-  L26:;
-    st8(v6 + 9u, v16);
+  L24:;
+    st8(v6 + 9u, v17);
     st8(v6 + 8u, v7);
     st64(v6, a3);
     st64(v6 + 10u, ld64(v6 + 104u));

@@ -91,4 +91,8 @@ pub enum Kind {
     TpmCertInfo = 42,
     /// `pubArea` of a tpm attestation statement.
     TpmPubArea = 43,
+    /// An authenticatorMakeCredential request by the standard alone (CTAP 2.2, section 6.1).
+    CtapMcRequest = 44,
+    /// An authenticatorGetAssertion request by the standard alone (CTAP 2.2, section 6.2).
+    CtapGaRequest = 45,
 }

@@ -1,7 +1,9 @@
 //! Attestation statements of every format.
 ghost use Rattle.std.specs.Prelude.{◌≡◌, map, IfOk, OnOk};
 ghost use Rattle.passkey_attestation.specs.Formats.{format_named};
-ghost use Rattle.passkey_attestation.specs.Statement.{ReadsStatement, KnownGrows, NamedGrows, StatementFits, read_map, read_none, read_compound, read_known, read_named, statement_parts, statement_name, statement_tree, is_statement_coherent};
+ghost use Rattle.passkey_attestation.specs.Statement.{ReadsStatement, KnownGrows, NamedGrows, StatementFits, read_map, read_none};
+ghost use Rattle.passkey_attestation.specs.Statement.{read_compound, read_known, read_named, statement_parts, statement_name};
+ghost use Rattle.passkey_attestation.specs.Statement.{statement_tree, is_statement_coherent};
 ghost use Rattle.passkey_attestation.specs.Statements.{element_parts};
 ghost use Rattle.passkey_kinds.specs.Words.{Grows, MayGrowAt, fields_of, item_of, table_of};
 

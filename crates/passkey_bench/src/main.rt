@@ -9,7 +9,7 @@ use passkey_ctap2::{
     get_assertion as get_assertion, get_info as get_info, make_credential as make_credential,
 };
 use passkey_kinds::Message;
-use passkey_run::{JsonKind, rewrite_json};
+use passkey_rewrite::{JsonKind, rewrite_json};
 use std::alloc::Global;
 use std::env;
 use std::io::Read;
@@ -49,8 +49,8 @@ fn call_named(name: &str) -> Option<Call> {
         "rewrite-info" => Some(Call::DecodeAndEncode(Kind::Info)),
         "rewrite-mc-response" => Some(Call::DecodeAndEncode(Kind::MakeResponse)),
         "rewrite-ga-request" => Some(Call::DecodeAndEncode(Kind::GetRequest)),
-        _ => match passkey_run::Kind::from_name(name) {
-            Some(passkey_run::Kind::Json(kind)) => Some(Call::Json(kind)),
+        _ => match passkey_rewrite::Kind::from_name(name) {
+            Some(passkey_rewrite::Kind::Json(kind)) => Some(Call::Json(kind)),
             _ => None,
         },
     }

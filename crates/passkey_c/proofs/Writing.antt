@@ -1,7 +1,7 @@
 -- What is written of a result, by what is known of it.
 use Rattle.std.specs.Prelude.{ℕ, List, Result, Ok, Err, IfOk, IfErr}
 use Rattle.std.proofs.Common.{subst, sym}
-use Rattle.passkey_run.specs.declared.fault.RunFault.{RunFault}
+use Rattle.passkey_rewrite.specs.declared.fault.RunFault.{RunFault}
 use Rattle.passkey_c.specs.Writing.{Outputs, Writes, written, long, rejected, WritesResult}
 
 module _ {old new : Outputs} {status : ℕ} where

@@ -35,8 +35,8 @@ use Rattle.passkey_catalogue.specs.Catalogue.{definition}
 use Rattle.passkey_catalogue.specs.declared.form.Form.{Form}
 use Rattle.passkey_catalogue.specs.declared.form.Form.TheVariants as form
 use Rattle.passkey_catalogue.specs.declared.kind.Kind.{Kind}
-use Rattle.passkey_run.specs.Definition.{Definition, authenticator, item, message, other}
-use Rattle.passkey_run.specs.Rewriting.{IsFrontLength}
+use Rattle.passkey_rewrite.specs.Definition.{Definition, authenticator, item, message, other}
+use Rattle.passkey_rewrite.specs.Rewriting.{IsFrontLength}
 use Rattle.passkey_tpm.specs.CertInfo.{cert_info_refusal}
 use Rattle.passkey_tpm.specs.PubArea.{pub_area_refusal}
 use Rattle.passkey_tpm.specs.Texts.{refusal_text}

@@ -9,7 +9,7 @@ use Rattle.passkey_json.specs.Names.{json_fault_name}
 use Rattle.passkey_json.specs.JsonText.{HasNoJson, IsJson}
 use Rattle.passkey_json.specs.declared.blame.JsonBlame.{JsonBlame}
 use Rattle.passkey_json.specs.declared.json_fault.JsonFault.{JsonFault}
-use Rattle.passkey_run.specs.declared.fault.RunFault.TheVariants.{BadJson}
+use Rattle.passkey_rewrite.specs.declared.fault.RunFault.TheVariants.{BadJson}
 use Rattle.serde_json.specs.Data.{Data}
 use Rattle.passkey_c.specs.Statuses.{json_status, status_of}
 use Rattle.passkey_c.specs.declared.verdict.Refusal.{Refusal}

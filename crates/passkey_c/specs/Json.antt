@@ -10,12 +10,12 @@ use Rattle.passkey_kinds.specs.Message.{Begins}
 use Rattle.passkey_kinds.specs.Record.{Fields, read_item}
 use Rattle.passkey_kinds.specs.RecordReading.{shape_of}
 use Rattle.passkey_kinds.specs.declared.wanted.Wanted.TheVariants as wanted
-use Rattle.passkey_report.specs.Json.{json_text}
-use Rattle.passkey_report.specs.Opened.{opened}
-use Rattle.passkey_run.specs.Definition.{Definition, authenticator, item, message, other}
-use Rattle.passkey_run.specs.Rewriting.{IsRefusalAs}
-use Rattle.passkey_run.specs.declared.fault.RunFault.{RunFault}
-use Rattle.passkey_run.specs.declared.fault.RunFault.TheVariants.{UnknownKind}
+use Rattle.passkey_render.specs.Json.{json_text}
+use Rattle.passkey_render.specs.Opened.{opened}
+use Rattle.passkey_rewrite.specs.Definition.{Definition, authenticator, item, message, other}
+use Rattle.passkey_rewrite.specs.Rewriting.{IsRefusalAs}
+use Rattle.passkey_rewrite.specs.declared.fault.RunFault.{RunFault}
+use Rattle.passkey_rewrite.specs.declared.fault.RunFault.TheVariants.{UnknownKind}
 use Rattle.passkey_c.specs.Writing.{Outputs, Writes, IsUnknown}
 use Rattle.passkey_catalogue.specs.Catalogue.{definition}
 use Rattle.passkey_catalogue.specs.Rewriting.{EncodesForm, IsFormLength, IsKeyRefusal, RefusesForm}

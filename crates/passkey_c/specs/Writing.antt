@@ -1,6 +1,6 @@
 -- What a call that writes bytes returns, and leaves in the caller's memory.
 use Rattle.std.specs.Prelude.{◌≡◌, ℕ, ◌<◌, ◌≤◌, List, ◌++◌, drop, length, Result, Ok, Err}
-use Rattle.passkey_run.specs.declared.fault.RunFault.{RunFault}
+use Rattle.passkey_rewrite.specs.declared.fault.RunFault.{RunFault}
 use Rattle.passkey_c.specs.Statuses.{status_of}
 
 -- What the caller's memory holds: how many bytes of the input were decoded, the output, and the length of what is written.

@@ -2,10 +2,14 @@
 ghost use Rattle.std.specs.Prelude.{◌≡◌, ℕ, IfOk, Some, string_bytes};
 ghost use Rattle.passkey_cbor.specs.Item.{Item};
 ghost use Rattle.passkey_cbor.specs.LeadingItem.{HasNoLeadingItem, IsLeadingItem};
-ghost use Rattle.passkey_c.specs.Explaining.{Accepts, AcceptsData, AcceptsForm, AcceptsKey, AcceptsMessage, AcceptsStatement, AcceptsStructure, ExplainsAs, IsVerdict, Tells, TellsData, TellsForm, TellsItem, TellsKey, TellsMessage, TellsNoKey, TellsStatement, TellsStructure, bytes_in, fault_of, refusal_in, refusal_of, refused_in_front, statement_fault_of, statement_refusal_of, structure_refusal};
+ghost use Rattle.passkey_c.specs.Explaining.{Accepts, AcceptsData, AcceptsForm, AcceptsKey, AcceptsMessage, AcceptsStatement};
+ghost use Rattle.passkey_c.specs.Explaining.{AcceptsStructure, ExplainsAs, IsVerdict, Tells, TellsData, TellsForm, TellsItem};
+ghost use Rattle.passkey_c.specs.Explaining.{TellsKey, TellsMessage, TellsNoKey, TellsStatement, TellsStructure, bytes_in};
+ghost use Rattle.passkey_c.specs.Explaining.{fault_of, refusal_in, refusal_of, refused_in_front, statement_fault_of};
+ghost use Rattle.passkey_c.specs.Explaining.{statement_refusal_of, structure_refusal};
 ghost use Rattle.passkey_catalogue.specs.Catalogue.{definition, kind_numbered};
 ghost use Rattle.passkey_explain_data.specs.KeyBlame.{key_blame};
-ghost use Rattle.passkey_run.specs.Rewriting.{IsFrontLength};
+ghost use Rattle.passkey_rewrite.specs.Rewriting.{IsFrontLength};
 ghost use Rattle.passkey_tpm.specs.CertInfo.{cert_info_refusal};
 ghost use Rattle.passkey_tpm.specs.PubArea.{pub_area_refusal};
 
@@ -24,7 +28,7 @@ use passkey_explain_data::{
 use passkey_kinds::{Fault, Message};
 use passkey_malformed::malformed;
 use passkey_memory::OutOfMemory;
-use passkey_run::Visitor;
+use passkey_rewrite::Visitor;
 use passkey_tpm::{TpmRefusal, explain_cert_info, explain_pub_area};
 use std::alloc::Global;
 

@@ -9,7 +9,7 @@ use crate::status::{json_status, status_of};
 use crate::verdict::{Reason, Refusal, Verdict};
 use passkey_catalogue::{AnyJsonKind, RefusedJson, explain_json_as};
 use passkey_memory::OutOfMemory;
-use passkey_run::{RunFault, parse_json};
+use passkey_rewrite::{RunFault, parse_json};
 use serde_json::Value;
 use std::alloc::Global;
 

@@ -5,8 +5,8 @@ ghost use Rattle.passkey_catalogue.specs.Catalogue.{definition, kind_numbered};
 ghost use Rattle.passkey_catalogue.specs.Rewriting.{IsKeyRefusal};
 ghost use Rattle.passkey_explain.specs.Described.{described_of};
 ghost use Rattle.passkey_kinds.specs.Record.{read_item};
-ghost use Rattle.passkey_report.specs.Json.{json_text};
-ghost use Rattle.passkey_run.specs.Rewriting.{IsCborRefusal, IsDataRefusal, IsMessageRefusal};
+ghost use Rattle.passkey_render.specs.Json.{json_text};
+ghost use Rattle.passkey_rewrite.specs.Rewriting.{IsCborRefusal, IsDataRefusal, IsMessageRefusal};
 
 use crate::write::write;
 use passkey_catalogue::{Form, Kind, encode_form, visit};
@@ -17,8 +17,8 @@ use passkey_explain::{Description, describe_data, describe_item, describe_key};
 use passkey_explain_data::data_len;
 use passkey_kinds::{Fault, Message};
 use passkey_memory::OutOfMemory;
-use passkey_report::{describe_opened, json_of};
-use passkey_run::{RunFault, Visitor};
+use passkey_render::{describe_opened, json_of};
+use passkey_rewrite::{RunFault, Visitor};
 use std::alloc::Global;
 
 /// Returns the JSON of a description.

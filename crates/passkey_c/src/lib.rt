@@ -1,6 +1,6 @@
 //! Puffgrit for C: messages that are decoded and encoded again, in the caller's memory. A slice is a
 //! pointer and a length in C, and an allocator is nothing. No pointer is handed out, so nothing is to
-//! be freed. `puffgrit.h` is made from these sources and those of `passkey_look_c` (`tools/header`).
+//! be freed. `puffgrit.h` is made from these sources and those of `passkey_view_c` (`tools/header`).
 #![tactic(auto)]
 
 ghost use Rattle.std.specs.Prelude.{◌≡◌};

@@ -6,7 +6,7 @@ use passkey_attestation::StatementFault;
 use passkey_cose::CoseError;
 use passkey_json::JsonFault;
 use passkey_kinds::Fault;
-use passkey_run::RunFault;
+use passkey_rewrite::RunFault;
 
 /// Returns the status of a fault at the member with this number.
 fn at_member(status: u32, number: u8) -> u32

@@ -3,7 +3,7 @@ ghost use Rattle.std.specs.Prelude.{◌≡◌, ◌++◌, ◌≤◌, drop, length
 ghost use Rattle.passkey_c.specs.Writing.{WritesResult};
 
 use crate::status::status_of;
-use passkey_run::RunFault;
+use passkey_rewrite::RunFault;
 
 /// Copies the bytes to the beginning of the output.
 fn put(out: &mut [u8], bytes: &[u8])

@@ -18,11 +18,11 @@ use Rattle.passkey_commands.specs as commands
 use Rattle.passkey_kinds.specs.Numbered.{numbered_fields, table_fields}
 use Rattle.passkey_kinds.specs.Words.{PlainTable, plain_tree}
 use Rattle.passkey_registered.specs as registered
-use Rattle.passkey_run.specs.Kinds.{bytes_definition}
-use Rattle.passkey_run.specs.Definition.{Definition, message, other}
-use Rattle.passkey_run.specs.Kind.{bytes_kinds, json_kinds}
-use Rattle.passkey_run.specs.contracts.kind.BytesKind.{the_type as the_bytes_kind}
-use Rattle.passkey_run.specs.contracts.kind.JsonKind.{the_type as the_json_kind}
+use Rattle.passkey_rewrite.specs.Kinds.{bytes_definition}
+use Rattle.passkey_rewrite.specs.Definition.{Definition, message, other}
+use Rattle.passkey_rewrite.specs.Kind.{bytes_kinds, json_kinds}
+use Rattle.passkey_rewrite.specs.contracts.kind.BytesKind.{the_type as the_bytes_kind}
+use Rattle.passkey_rewrite.specs.contracts.kind.JsonKind.{the_type as the_json_kind}
 use Rattle.passkey_webauthn.specs.Names.{own_name, value_in}
 
 -- a message that one table defines, with numbers for its members, or with names alone
@@ -63,6 +63,8 @@ ctap_definition ctap.AppleStatement = other (form.Statement format.Apple)
 ctap_definition ctap.CompoundStatement = other (form.Statement format.Compound)
 ctap_definition ctap.CertInfo = other form.CertInfo
 ctap_definition ctap.PubArea = other form.PubArea
+ctap_definition ctap.CtapMakeRequest = by_table registered.make_credential.McRequest.mc_request
+ctap_definition ctap.CtapGetRequest = by_table registered.get_assertion.GaRequest.ga_request
 
 abbrev pub definition : Kind → Definition Form
 definition (kind.Bytes k) = bytes_definition k

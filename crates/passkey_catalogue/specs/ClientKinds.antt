@@ -12,7 +12,7 @@ use Rattle.passkey_catalogue.specs.Rows.{Rows, names_of, own_source}
 use Rattle.passkey_catalogue.specs.contracts.client_kind.ClientKind.{the_type}
 use Rattle.passkey_catalogue.specs.declared.client_kind.ClientKind.{ClientKind}
 use Rattle.passkey_catalogue.specs.declared.client_kind.ClientKind.TheVariants as kind
-use Rattle.passkey_run.specs.JsonDefinition.{JsonDefinition, json_client_data, json_object, json_record}
+use Rattle.passkey_rewrite.specs.JsonDefinition.{JsonDefinition, json_client_data, json_object, json_record}
 use Rattle.passkey_webauthn.specs.Names.{Names, own_name, value_in}
 
 abbrev pub client_rows : Rows ClientKind

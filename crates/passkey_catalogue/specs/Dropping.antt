@@ -2,7 +2,7 @@
 use Rattle.std.specs.Prelude.{◌≡◌, List, []}
 use Rattle.passkey_explain_json.specs.LeftOut.{AreLeftOut}
 use Rattle.passkey_json.specs.declared.dropped.DroppedValue.{DroppedValue}
-use Rattle.passkey_run.specs.JsonDefinition.{JsonDefinition, json_client_data, json_object, json_record}
+use Rattle.passkey_rewrite.specs.JsonDefinition.{JsonDefinition, json_client_data, json_object, json_record}
 use Rattle.serde_json.specs.Data.{Data}
 
 -- These are the values that a record of this table leaves out. Client data leave out none; of another object nothing is

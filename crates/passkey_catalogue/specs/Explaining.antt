@@ -7,8 +7,8 @@ use Rattle.passkey_json.specs.Fault.{IsFaultOf}
 use Rattle.passkey_json.specs.Members.{in_object}
 use Rattle.passkey_json.specs.Table.{PlainTable, members_in}
 use Rattle.passkey_json.specs.declared.json_fault.JsonFault.{JsonFault}
-use Rattle.passkey_run.specs.JsonDefinition.{JsonDefinition, json_client_data, json_object, json_record}
-use Rattle.passkey_run.specs.RewritesJson.{object_in}
+use Rattle.passkey_rewrite.specs.JsonDefinition.{JsonDefinition, json_client_data, json_object, json_record}
+use Rattle.passkey_rewrite.specs.RewritesJson.{object_in}
 use Rattle.passkey_webauthn_json.specs.client_data.ClientData.{client_data}
 use Rattle.serde_json.specs.Data.{Data}
 

@@ -4,9 +4,9 @@ use Rattle.passkey_catalogue.specs.ClientKinds.{client_definition}
 use Rattle.passkey_catalogue.specs.declared.any_json_kind.AnyJsonKind.{AnyJsonKind}
 use Rattle.passkey_catalogue.specs.declared.any_json_kind.AnyJsonKind.TheVariants.{Ceremony, Client}
 use Rattle.passkey_json.specs.Fault.{Fault}
-use Rattle.passkey_run.specs.JsonDefinition.{JsonDefinition}
-use Rattle.passkey_run.specs.Kinds.{json_definition}
-use Rattle.passkey_run.specs.RewritesJson.{rewritten_as}
+use Rattle.passkey_rewrite.specs.JsonDefinition.{JsonDefinition}
+use Rattle.passkey_rewrite.specs.Kinds.{json_definition}
+use Rattle.passkey_rewrite.specs.RewritesJson.{rewritten_as}
 use Rattle.serde_json.specs.Data.{Data}
 
 abbrev pub any_json_definition : AnyJsonKind → JsonDefinition

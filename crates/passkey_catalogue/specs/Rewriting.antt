@@ -17,11 +17,11 @@ use Rattle.passkey_catalogue.specs.JsonTexts.{any_json_rewritten}
 use Rattle.passkey_catalogue.specs.declared.form.Form.{Form}
 use Rattle.passkey_catalogue.specs.declared.form.Form.TheVariants as form
 use Rattle.passkey_explain_data.specs.DataLength.{IsDataLength}
-use Rattle.passkey_run.specs.RewritesJson.{IsJsonRefusal, RewritesJson}
-use Rattle.passkey_run.specs.Definition.{Definition, authenticator, item, message, other}
-use Rattle.passkey_run.specs.Rewriting.{IsFrontLength, IsRefusalAs, RefusesLeadingItem, RewritesAs}
-use Rattle.passkey_run.specs.declared.fault.RunFault.{RunFault}
-use Rattle.passkey_run.specs.declared.fault.RunFault.TheVariants.{Refused, MessageRefused, OutOfMemory}
+use Rattle.passkey_rewrite.specs.RewritesJson.{IsJsonRefusal, RewritesJson}
+use Rattle.passkey_rewrite.specs.Definition.{Definition, authenticator, item, message, other}
+use Rattle.passkey_rewrite.specs.Rewriting.{IsFrontLength, IsRefusalAs, RefusesLeadingItem, RewritesAs}
+use Rattle.passkey_rewrite.specs.declared.fault.RunFault.{RunFault}
+use Rattle.passkey_rewrite.specs.declared.fault.RunFault.TheVariants.{Refused, MessageRefused, OutOfMemory}
 use Rattle.passkey_tpm.specs.CertInfo.{cert_info_in, cert_info_written}
 use Rattle.passkey_tpm.specs.PubArea.{pub_area_in, pub_area_written}
 

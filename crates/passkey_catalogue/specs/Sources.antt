@@ -4,10 +4,10 @@ use Rattle.passkey_catalogue.specs.ClientKinds.{client_source}
 use Rattle.passkey_catalogue.specs.CtapKinds.{ctap_source}
 use Rattle.passkey_catalogue.specs.declared.kind.Kind.{Kind}
 use Rattle.passkey_catalogue.specs.declared.kind.Kind.TheVariants as kind
-use Rattle.passkey_run.specs.declared.kind.BytesKind.{BytesKind}
-use Rattle.passkey_run.specs.declared.kind.BytesKind.TheVariants as bytes
-use Rattle.passkey_run.specs.declared.kind.JsonKind.{JsonKind}
-use Rattle.passkey_run.specs.declared.kind.JsonKind.TheVariants as json
+use Rattle.passkey_rewrite.specs.declared.kind.BytesKind.{BytesKind}
+use Rattle.passkey_rewrite.specs.declared.kind.BytesKind.TheVariants as bytes
+use Rattle.passkey_rewrite.specs.declared.kind.JsonKind.{JsonKind}
+use Rattle.passkey_rewrite.specs.declared.kind.JsonKind.TheVariants as json
 
 abbrev pub bytes_source : BytesKind → List ℕ
 bytes_source bytes.Cbor = codes "RFC 8949"

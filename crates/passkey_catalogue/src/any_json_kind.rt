@@ -1,7 +1,7 @@
 //! All kinds of JSON texts.
 
 use crate::client_kind::ClientKind;
-use passkey_run::JsonKind;
+use passkey_rewrite::JsonKind;
 
 /// What a JSON text is decoded as.
 #[derive(Clone, Copy, Debug, PartialEq, Eq)]

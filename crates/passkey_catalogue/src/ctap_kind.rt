@@ -69,6 +69,10 @@ pub enum CtapKind {
     CertInfo,
     /// `pubArea` of a tpm attestation statement.
     PubArea,
+    /// An authenticatorMakeCredential request by the standard alone (CTAP 2.2, section 6.1).
+    CtapMakeRequest,
+    /// An authenticatorGetAssertion request by the standard alone (CTAP 2.2, section 6.2).
+    CtapGetRequest,
 }
 
 /// The kinds: the name of each, its value, and the standard that defines what its inputs are, with the
@@ -107,6 +111,8 @@ macro_rules! kinds {
             ("att-compound", CtapKind::CompoundStatement, "WebAuthn Level 3, section 8.9"),
             ("tpm-cert-info", CtapKind::CertInfo, "TPM 2.0 Library, Part 2"),
             ("tpm-pub-area", CtapKind::PubArea, "TPM 2.0 Library, Part 2"),
+            ("ctap-mc-request", CtapKind::CtapMakeRequest, "CTAP 2.2, section 6.1"),
+            ("ctap-ga-request", CtapKind::CtapGetRequest, "CTAP 2.2, section 6.2"),
         }
     };
 }

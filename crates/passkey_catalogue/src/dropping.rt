@@ -9,7 +9,7 @@ use crate::visiting::visit_json;
 use passkey_explain_json::dropped_json;
 use passkey_json::{DroppedValue, FromJson, PlainJsonRecord, ToJson};
 use passkey_memory::OutOfMemory;
-use passkey_run::JsonVisitor;
+use passkey_rewrite::JsonVisitor;
 use passkey_webauthn_json::client_data::ClientDataExtra;
 use serde_json::Value;
 use std::alloc::Global;

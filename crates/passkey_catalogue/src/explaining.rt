@@ -3,7 +3,7 @@ ghost use Rattle.std.specs.Prelude.{IfOk};
 ghost use Rattle.passkey_catalogue.specs.Explaining.{ExplainsAs};
 ghost use Rattle.passkey_catalogue.specs.JsonTexts.{any_json_definition};
 ghost use Rattle.passkey_json.specs.Fault.{IsFaultOf};
-ghost use Rattle.passkey_run.specs.RewritesJson.{object_in};
+ghost use Rattle.passkey_rewrite.specs.RewritesJson.{object_in};
 ghost use Rattle.passkey_webauthn_json.specs.client_data.ClientData.{client_data};
 ghost use Rattle.serde_json.specs.View.{view};
 
@@ -16,7 +16,7 @@ use passkey_json::{
     holds_float,
 };
 use passkey_memory::OutOfMemory;
-use passkey_run::{JsonVisitor, object_from};
+use passkey_rewrite::{JsonVisitor, object_from};
 use passkey_webauthn_json::client_data::{ClientDataExtra, CollectedClientData};
 use serde_json::{Map, Value};
 use std::alloc::Global;

@@ -1,11 +1,11 @@
 //! COSE keys, decoded and encoded again.
 ghost use Rattle.std.specs.Prelude.{IfOk, IfErr};
 ghost use Rattle.passkey_catalogue.specs.Rewriting.{IsKeyRefusal, RewritesKey};
-ghost use Rattle.passkey_run.specs.Rewriting.{IsFrontLength};
+ghost use Rattle.passkey_rewrite.specs.Rewriting.{IsFrontLength};
 
 use passkey_cbor::Value;
 use passkey_cose::CoseKey;
-use passkey_run::RunFault;
+use passkey_rewrite::RunFault;
 use std::alloc::Global;
 
 /// Decodes the leading data item of the bytes as a key, and encodes it. Returns the encoding, and

@@ -6,7 +6,7 @@ ghost use Rattle.passkey_catalogue.specs.Numbers.{value_from};
 use crate::any_json_kind::AnyJsonKind;
 use crate::client_kind::ClientKind;
 use crate::ctap_kind::CtapKind;
-use passkey_run::{BytesKind, JsonKind};
+use passkey_rewrite::{BytesKind, JsonKind};
 use passkey_webauthn::EnumNames;
 
 /// What an input is.

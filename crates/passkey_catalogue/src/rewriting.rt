@@ -4,8 +4,8 @@ ghost use Rattle.passkey_catalogue.specs.Catalogue.{definition};
 ghost use Rattle.passkey_catalogue.specs.JsonTexts.{any_json_rewritten};
 ghost use Rattle.passkey_catalogue.specs.Rewriting.{Encodes, EncodesForm, IsFormLength, IsRefusal, RefusesForm};
 ghost use Rattle.passkey_explain_data.specs.DataLength.{IsDataLength};
-ghost use Rattle.passkey_run.specs.RewritesJson.{IsJsonRefusal, RewritesJson};
-ghost use Rattle.passkey_run.specs.Rewriting.{IsDataRefusal, RewritesData};
+ghost use Rattle.passkey_rewrite.specs.RewritesJson.{IsJsonRefusal, RewritesJson};
+ghost use Rattle.passkey_rewrite.specs.Rewriting.{IsDataRefusal, RewritesData};
 
 use crate::any_json_kind::AnyJsonKind;
 use crate::form::Form;
@@ -16,7 +16,7 @@ use crate::structure::{rewrite_cert_info, rewrite_pub_area};
 use crate::visiting::{visit, visit_json};
 use passkey_explain_data::data_len;
 use passkey_kinds::Message;
-use passkey_run::{
+use passkey_rewrite::{
     JsonRewriting, RunFault, Visitor, rewrite_data, rewrite_front_item, rewrite_front_message,
 };
 use std::alloc::Global;

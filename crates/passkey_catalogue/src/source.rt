@@ -5,7 +5,7 @@ ghost use Rattle.passkey_catalogue.specs.Sources.{bytes_source, json_source, sou
 use crate::client_kind::client_source;
 use crate::ctap_kind::ctap_source;
 use crate::kind::Kind;
-use passkey_run::{BytesKind, JsonKind};
+use passkey_rewrite::{BytesKind, JsonKind};
 
 fn bytes_source(kind: BytesKind) -> &'static str
     ensures { result.now ≡ bytes_source kind }

@@ -4,12 +4,12 @@ ghost use Rattle.passkey_attestation.specs.Formats.{format_name};
 ghost use Rattle.passkey_attestation.specs.Statement.{read_statement, statement_parts};
 ghost use Rattle.passkey_cbor.specs.View.{item_of};
 ghost use Rattle.passkey_catalogue.specs.Rewriting.{IsFaultOf, IsStatementItem, IsStatementRefusal, RewritesStatement};
-ghost use Rattle.passkey_run.specs.Rewriting.{IsFrontLength};
+ghost use Rattle.passkey_rewrite.specs.Rewriting.{IsFrontLength};
 
 use passkey_attestation::{AttestationFormat, AttestationStatement, StatementFault};
 use passkey_cbor::Value;
 use passkey_cose::CoseError;
-use passkey_run::RunFault;
+use passkey_rewrite::RunFault;
 use passkey_webauthn::EnumNames;
 use std::alloc::Global;
 

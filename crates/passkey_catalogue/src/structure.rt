@@ -5,7 +5,7 @@ ghost use Rattle.passkey_tpm.specs.CertInfo.{cert_info_in, cert_info_written};
 ghost use Rattle.passkey_tpm.specs.PubArea.{pub_area_in, pub_area_written};
 
 use passkey_cose::CoseError;
-use passkey_run::RunFault;
+use passkey_rewrite::RunFault;
 use passkey_tpm::laws::{read_cert_info_is_written_back, read_pub_area_is_written_back};
 use passkey_tpm::{CertInfo, PubArea};
 use std::alloc::Global;

@@ -12,7 +12,7 @@ use passkey_attestation::AttestationFormat;
 use passkey_client as client;
 use passkey_commands::{bio_enrollment, client_pin, config, credential_management, large_blobs};
 use passkey_registered::{self as registered, extensions};
-use passkey_run::{JsonVisitor, Visitor, visit_bytes};
+use passkey_rewrite::{JsonVisitor, Visitor, visit_bytes};
 use passkey_webauthn_json::options::{
     PublicKeyCredentialCreationOptions, PublicKeyCredentialRequestOptions,
 };
@@ -53,6 +53,8 @@ macro_rules! of_ctap_kind {
             CtapKind::CompoundStatement => $visitor.visit_other(Form::Statement(AttestationFormat::Compound)),
             CtapKind::CertInfo => $visitor.visit_other(Form::CertInfo),
             CtapKind::PubArea => $visitor.visit_other(Form::PubArea),
+            CtapKind::CtapMakeRequest => $visitor.visit_message::<registered::make_credential::Request>(),
+            CtapKind::CtapGetRequest => $visitor.visit_message::<registered::get_assertion::Request>(),
         }
     };
 }
@@ -80,7 +82,7 @@ pub fn visit_json<V: JsonVisitor>(kind: AnyJsonKind, visitor: V) -> V::Output
     ensures { V.Gives visitor (any_json_definition kind) result }
 {
     match kind {
-        AnyJsonKind::Ceremony(kind) => passkey_run::visit_json(kind, visitor),
+        AnyJsonKind::Ceremony(kind) => passkey_rewrite::visit_json(kind, visitor),
         AnyJsonKind::Client(kind) => visit_client_kind(kind, visitor),
     }
 }

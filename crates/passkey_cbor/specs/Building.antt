@@ -72,7 +72,7 @@ Made m x rest old new (Err error.OutOfRangeIntegerValue) = ⊥
 -- bytes of a string's content the cursor passes before the next head
 pub record Makes {V X : Type 0} (m : Making V X) (content : ℕ) (read : Read X) (old new : CursorState)
     (result : Result V CborError) : Type 0 where
-  pub went : MovesForward old new
+  pub moves : MovesForward old new
   pub spans : OnOk result (Spans content old new)
   pub made : (x : X) (rest : List ℕ) → read ≡ Some (x, rest) → Made m x rest old new result
   pub heads : (x : X) (rest : List ℕ) → read ≡ Some (x, rest)

@@ -20,8 +20,8 @@ pub record Course : Type 0 where
   pub heads : ℕ
 
 -- heads that are decoded before
-abbrev pub behind_heads : ℕ → Course → Course
-behind_heads n c = record { rest = c.rest; heads = n + c.heads }
+abbrev pub after_heads : ℕ → Course → Course
+after_heads n c = record { rest = c.rest; heads = n + c.heads }
 
 -- nothing more is decoded
 abbrev pub over : List ℕ → Course
@@ -33,7 +33,7 @@ fault n = record { rest = None; heads = n }
 
 abbrev pub resumed : Option (List ℕ) → ℕ → (List ℕ → Course) → Course
 resumed None n others = fault n
-resumed (Some rest) n others = behind_heads n (others rest)
+resumed (Some rest) n others = after_heads n (others rest)
 
 -- one after the other
 infixl 10 ◌▸◌
@@ -47,8 +47,8 @@ rest_of (Some x) = Some x.1
 -- ---- data items and lists
 
 -- something whose first head is decoded already, from that head on
-abbrev pub course_behind : {A : Type 0} → Reader A → Tally → Head → List ℕ → Course
-course_behind read more h bytes = record { rest = rest_of (read h bytes); heads = more h bytes }
+abbrev pub course_after : {A : Type 0} → Reader A → Tally → Head → List ℕ → Course
+course_after read more h bytes = record { rest = rest_of (read h bytes); heads = more h bytes }
 
 abbrev pub course_of : {A : Type 0} → Reader A → Tally → List ℕ → Course
 course_of read more bytes = record { rest = rest_of (start read bytes); heads = start_heads more bytes }
@@ -61,8 +61,8 @@ unfoldable pub item_course : ℕ → List ℕ → Course
 item_course levels bytes = course_of (item_within levels) (item_heads levels) bytes
 
 -- the rest of a data item of at most this many levels, whose head is decoded already
-unfoldable pub item_behind : ℕ → Head → List ℕ → Course
-item_behind levels h bytes = course_behind (item_within levels) (item_heads levels) h bytes
+unfoldable pub item_after : ℕ → Head → List ℕ → Course
+item_after levels h bytes = course_after (item_within levels) (item_heads levels) h bytes
 
 -- the data items of a list, and the pairs, where each data item has at most this many levels
 unfoldable pub items_course : ℕ → Option ℕ → List ℕ → Course
@@ -91,7 +91,7 @@ opened_course levels opened (suc n) bytes =
 pub record Advances (whole : Course) (others : List ℕ → Course) (old new : CursorState) : Type 0 where
   pub number : ℕ
   pub decoded : new.heads ≡ raised old.heads number
-  pub same : whole ≡ behind_heads number (others (ahead new))
+  pub same : whole ≡ after_heads number (others (ahead new))
   pub passed : Passed old new
   pub spans : Spans 0 old new
 

@@ -123,7 +123,7 @@ abbrev pub Walks : {A : Type 0} → (A → Language) → Option ℕ → Option �
 Walks {A} P before after old new found =
     (xs : List A) (to : ℕ) → Lies (Left P before xs) old.bytes old.place to → NextIf P after xs new to found
 
--- whether the list goes on: its head counts further elements, or the next byte is no break
+-- whether the list goes on: its head counts more elements, or the next byte is no break
 abbrev pub goes_on : Option ℕ → List ℕ → Bool
 goes_on (Some n) bytes = nat_lt 0 n
 goes_on None [] = true

@@ -72,12 +72,12 @@ simple_at info bytes =
     else (size_of info >>= λ s. number_at s bytes >>= λ n. simple_or_float s n.0 >>= λ h. Some (h, n.1))
 
 -- the head whose initial byte has this major type and additional information, and is followed by these bytes
-unfoldable pub head_behind : ℕ → ℕ → List ℕ → Read Head
-head_behind major info bytes =
+unfoldable pub head_after : ℕ → ℕ → List ℕ → Read Head
+head_after major info bytes =
     if info == 31 then (without_argument major >>= λ h. Some (h, bytes))
     else if major == 7 then simple_at info bytes
     else (argument_at info bytes >>= λ n. with_argument major n.0 >>= λ h. Some (h, n.1))
 
 unfoldable pub head_at : List ℕ → Read Head
 head_at [] = None
-head_at (b ∷ bytes) = head_behind (b / 32) (b % 32) bytes
+head_at (b ∷ bytes) = head_after (b / 32) (b % 32) bytes

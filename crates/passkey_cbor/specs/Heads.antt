@@ -34,7 +34,7 @@ limit eight = 2 ^ 64
 -- the argument is in the initial byte, or big-endian in the bytes after it, in any size that can hold it
 pub data Heads (major argument : ℕ) (bytes : List ℕ) : Type 0 where
   within : argument < 24 → bytes ≡ (32 * major + argument) ∷ [] → Heads major argument bytes
-  behind : (s : Size) → argument < limit s → bytes ≡ (32 * major + information s) ∷ to_be_bytes (width s) argument
+  following : (s : Size) → argument < limit s → bytes ≡ (32 * major + information s) ∷ to_be_bytes (width s) argument
       → Heads major argument bytes
 
 -- the initial byte of a string, array or map of indefinite length

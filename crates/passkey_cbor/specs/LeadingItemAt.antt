@@ -12,7 +12,7 @@ leading_item_at bytes = start (item_within max_depth) bytes
 pub record IsFollowedBy (bytes : List ℕ) (x : Item) (rest : List ℕ) : Type 0 where
   pub len : ℕ
   pub front : IsLeadingItem bytes x len
-  pub behind : rest ≡ drop len bytes
+  pub following : rest ≡ drop len bytes
 
 -- This is the leading data item, followed by this rest; or, for `None`, there is no leading data item.
 abbrev pub IsLeadingItemOf : List ℕ → Option (Item × List ℕ) → Type 0

@@ -16,7 +16,7 @@ use std::cmp::Ordering;
 pub fn is_canonical(bytes: &[u8]) -> bool
     ensures { IsTrue result ↔ IsCanonical bytes.now }
 {
-    match behind_item(bytes, MAX_DEPTH) {
+    match after_item(bytes, MAX_DEPTH) {
         None => false,
         Some(rest) => rest.is_empty(),
     }
@@ -25,18 +25,18 @@ pub fn is_canonical(bytes: &[u8]) -> bool
 /// The bytes after the canonical data item of at most `levels` levels at the beginning of these;
 /// `None` if there is none.
 #[cycle(canonical)]
-fn behind_item(bytes: &[u8], levels: usize) -> Option<&[u8]>
+fn after_item(bytes: &[u8], levels: usize) -> Option<&[u8]>
     ensures { Leaves (BeginsItem levels bytes.now) (option_map (λ r. r.now) result) }
 {
     match Head::decode_shortest(bytes) {
         None => None,
-        Some((head, rest)) => behind_content(head, rest, levels),
+        Some((head, rest)) => after_content(head, rest, levels),
     }
 }
 
 // The bytes after the content of a canonical data item whose head is decoded already.
 #[cycle(canonical)]
-fn behind_content(head: Head, bytes: &[u8], levels: usize) -> Option<&[u8]>
+fn after_content(head: Head, bytes: &[u8], levels: usize) -> Option<&[u8]>
     ensures { Leaves (BeginsContent levels head bytes.now) (option_map (λ r. r.now) result) }
 {
     match head {
@@ -47,10 +47,10 @@ fn behind_content(head: Head, bytes: &[u8], levels: usize) -> Option<&[u8]>
             // Undefined isn't canonical, since it is encoded as null.
             if n == 23 { None } else { Some(bytes) }
         }
-        Head::Bytes(len) => behind_string(false, len?, bytes),
-        Head::Text(len) => behind_string(true, len?, bytes),
-        Head::Array(len) => behind_items(bytes, len?, levels.checked_sub(1)?),
-        Head::Map(len) => behind_pairs(bytes, len?, levels.checked_sub(1)?),
+        Head::Bytes(len) => after_string(false, len?, bytes),
+        Head::Text(len) => after_string(true, len?, bytes),
+        Head::Array(len) => after_items(bytes, len?, levels.checked_sub(1)?),
+        Head::Map(len) => after_pairs(bytes, len?, levels.checked_sub(1)?),
         Head::Tag(_) => None,
         Head::Break => None,
     }
@@ -58,13 +58,13 @@ fn behind_content(head: Head, bytes: &[u8], levels: usize) -> Option<&[u8]>
 
 // The bytes after `count` canonical data items.
 #[cycle(canonical)]
-fn behind_items(bytes: &[u8], count: u64, levels: usize) -> Option<&[u8]>
+fn after_items(bytes: &[u8], count: u64, levels: usize) -> Option<&[u8]>
     ensures { Leaves (BeginsItems levels count bytes.now) (option_map (λ r. r.now) result) }
 {
     let mut rest = bytes;
     let mut left = count;
     while left > 0 {
-        rest = behind_item(rest, levels)?;
+        rest = after_item(rest, levels)?;
         left -= 1;
     }
     Some(rest)
@@ -72,19 +72,19 @@ fn behind_items(bytes: &[u8], count: u64, levels: usize) -> Option<&[u8]>
 
 // The bytes after `count` pairs of canonical data items with ascending keys.
 #[cycle(canonical)]
-fn behind_pairs(bytes: &[u8], count: u64, levels: usize) -> Option<&[u8]>
+fn after_pairs(bytes: &[u8], count: u64, levels: usize) -> Option<&[u8]>
     ensures { Leaves (BeginsPairs levels count None bytes.now) (option_map (λ r. r.now) result) }
 {
     let mut rest = bytes;
     let mut before = None;
     let mut left = count;
     while left > 0 {
-        let behind_key = behind_item(rest, levels)?;
-        let key = &rest[..rest.len() - behind_key.len()];
+        let after_key = after_item(rest, levels)?;
+        let key = &rest[..rest.len() - after_key.len()];
         if !comes_after(before, key) {
             return None;
         }
-        rest = behind_item(behind_key, levels)?;
+        rest = after_item(after_key, levels)?;
         before = Some(key);
         left -= 1;
     }
@@ -104,7 +104,7 @@ fn comes_after(before: Option<&[u8]>, key: &[u8]) -> bool
 }
 
 // The bytes after the content of a string of this length.
-fn behind_string(is_text: bool, len: u64, bytes: &[u8]) -> Option<&[u8]>
+fn after_string(is_text: bool, len: u64, bytes: &[u8]) -> Option<&[u8]>
     ensures { Leaves (BeginsString is_text len bytes.now) (option_map (λ r. r.now) result) }
 {
     match piece_of(is_text, len, bytes) {

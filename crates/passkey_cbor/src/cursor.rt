@@ -135,7 +135,7 @@ impl<'a> Cursor<'a> {
             → Opens x to self.new result }
 
         // The counts never decrease.
-        ensures went { MovesForward self.old self.new }
+        ensures moves { MovesForward self.old self.new }
     {
         self.decode()
     }
@@ -149,7 +149,7 @@ impl<'a> Cursor<'a> {
         ensures walks { WalksOn left.old left.new self.old self.new result }
 
         // The counts never decrease.
-        ensures went { MovesForward self.old self.new }
+        ensures moves { MovesForward self.old self.new }
     {
         let place = self.place;
         let known = *left;

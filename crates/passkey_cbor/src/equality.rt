@@ -33,13 +33,13 @@ fn items_equal(a: &[Value], b: &[Value]) -> bool
 {
     let mut rest = b;
     for x in a {
-        let Some((y, behind)) = rest.split_first() else {
+        let Some((y, following)) = rest.split_first() else {
             return false;
         };
         if !equal(x, y) {
             return false;
         }
-        rest = behind;
+        rest = following;
     }
     rest.is_empty()
 }
@@ -50,13 +50,13 @@ fn pairs_equal(a: &[(Value, Value)], b: &[(Value, Value)]) -> bool
 {
     let mut rest = b;
     for (key, value) in a {
-        let Some(((other_key, other_value), behind)) = rest.split_first() else {
+        let Some(((other_key, other_value), following)) = rest.split_first() else {
             return false;
         };
         if !equal(key, other_key) || !equal(value, other_value) {
             return false;
         }
-        rest = behind;
+        rest = following;
     }
     rest.is_empty()
 }

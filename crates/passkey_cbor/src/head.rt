@@ -1,7 +1,7 @@
 //! Heads.
 ghost use Rattle.std.specs.Prelude.{◌≡◌, ◌<◌, ◌^◌, ℕ, List, ◌∷◌, Some as There, length, option_map, IfSome};
 ghost use Rattle.passkey_cbor.specs.Heads.{one, two, four, eight};
-ghost use Rattle.passkey_cbor.specs.HeadReading.{number_at, argument_at, with_argument, without_argument, simple_at, head_behind, head_at};
+ghost use Rattle.passkey_cbor.specs.HeadReading.{number_at, argument_at, with_argument, without_argument, simple_at, head_after, head_at};
 ghost use Rattle.passkey_cbor.specs.Reading.{is_break, chunk_len, string_len};
 ghost use Rattle.passkey_cbor.specs.CanonicalReading.{DecodesShortest, head_written};
 ghost use Rattle.passkey_cbor.specs.Written.{shortest_head, float_head};
@@ -42,7 +42,7 @@ impl Head {
         ensures { option_map (λ r. (r.0, r.1.now)) result ≡ head_at bytes.now }
     {
         let (initial, rest) = bytes.split_first()?;
-        Head::behind(*initial / 32, *initial % 32, rest)
+        Head::following(*initial / 32, *initial % 32, rest)
     }
 
     /// The head of this one byte, if its argument is in its additional information, below 24
@@ -107,9 +107,9 @@ impl Head {
 
     // The head whose initial byte has this major type and additional information, and is followed
     // by these bytes; and the bytes after it.
-    #[tactic(auto, unfolding(crate::specs::HeadReading::head_behind))]
-    fn behind(major: u8, info: u8, bytes: &[u8]) -> Option<(Head, &[u8])>
-        ensures { option_map (λ r. (r.0, r.1.now)) result ≡ head_behind major info bytes.now }
+    #[tactic(auto, unfolding(crate::specs::HeadReading::head_after))]
+    fn following(major: u8, info: u8, bytes: &[u8]) -> Option<(Head, &[u8])>
+        ensures { option_map (λ r. (r.0, r.1.now)) result ≡ head_after major info bytes.now }
     {
         if info == 31 {
             let head = Head::without_argument(major)?;

@@ -1,5 +1,6 @@
 //! Laws of the definitions, each the contract of a function that does nothing.
-ghost use Rattle.passkey_cbor.specs.Laws.{AtMostOneLeadingItem, NoShorterLeadingItem, LeadingItemIsFound, FoundIsLeadingItem, GivenIsShallow, WrittenIsEncoding, WrittenIsLeadingItem, WholeHeadsAreCounted};
+ghost use Rattle.passkey_cbor.specs.Laws.{AtMostOneLeadingItem, NoShorterLeadingItem, LeadingItemIsFound, FoundIsLeadingItem};
+ghost use Rattle.passkey_cbor.specs.Laws.{GivenIsShallow, WrittenIsEncoding, WrittenIsLeadingItem, WholeHeadsAreCounted};
 
 /// Bytes have at most one leading data item, with only one length: no encoding is a proper prefix
 /// of another one (RFC 8949, section 3).

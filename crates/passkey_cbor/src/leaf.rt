@@ -1,31 +1,52 @@
 //! Data items without others in them, whose head has at most two bytes.
-ghost use Rattle.std.specs.Prelude.{◌<◌, ◌≤◌, List, ℕ, ◌∷◌, drop, length, IfSome};
+ghost use Rattle.std.specs.Prelude.{◌≡◌, ◌<◌, ◌≤◌, List, ℕ, ◌∷◌, drop, length, true, IfSome, Some as There};
+ghost use Rattle.passkey_cbor.specs.HeadReading.{head_at};
 ghost use Rattle.passkey_cbor.specs.Lent.{string_head};
 ghost use Rattle.passkey_cbor.specs.Leaf.{Headed, IsLeafLen};
 
 use crate::cursor::is_allowed;
 use crate::head::Head;
 
-/// Returns the head at the beginning of the bytes, if it has one byte, or two with the argument in
-/// the second, and how many bytes it has.
+/// Returns the length of the head of a string of this kind at the beginning of the bytes, and the
+/// length that it names, if the head has one byte, or two with the argument in the second.
 #[inline(always)]
-pub(crate) fn short_head(bytes: &[u8]) -> Option<(usize, Head)>
-    ensures headed { IfSome result (λ r. Headed bytes.now r.0 r.1 (drop r.0 bytes.now)) }
+pub(crate) fn short_string_head(is_text: bool, bytes: &[u8]) -> Option<(usize, usize)>
+    ensures headed { IfSome result (λ r. Headed bytes.now r.0 (string_head is_text (There r.1)) (drop r.0 bytes.now)) }
     ensures len { IfSome result (λ r. (0 < r.0) × (r.0 ≤ length bytes.now)) }
 {
     if bytes.is_empty() {
         return None;
     }
-    if let Some(head) = Head::short(bytes[0]) {
-        return Some((1, head));
+    if let Some(len) = len_in_initial(is_text, bytes[0]) {
+        return Some((1, usize::from(len)));
     }
-    if bytes.len() < 2 {
+    if bytes.len() < 2 || !has_len_in_byte(is_text, bytes[0]) {
         return None;
     }
-    match Head::with_byte(bytes[0], bytes[1]) {
-        Some(head) => Some((2, head)),
-        None => None,
+    Some((2, usize::from(bytes[1])))
+}
+
+// The string's length in this initial byte, if it is that of a string of this kind shorter than 24
+// bytes (RFC 8949, section 3).
+#[inline(always)]
+fn len_in_initial(is_text: bool, initial: u8) -> Option<u8>
+    ensures { IfSome result (λ n. (rest : List ℕ)
+        → head_at (initial ∷ rest) ≡ There (string_head is_text (There n), rest)) }
+{
+    let first: u8 = if is_text { 0x60 } else { 0x40 };
+    if initial < first || initial - first >= 24 {
+        return None;
     }
+    Some(initial - first)
+}
+
+// Whether this initial byte is that of a string of this kind whose length is in the next byte.
+#[inline(always)]
+fn has_len_in_byte(is_text: bool, initial: u8) -> bool
+    ensures { result ≡ true → (n : ℕ) (rest : List ℕ) → n < 256
+        → head_at (initial ∷ (n ∷ rest)) ≡ There (string_head is_text (There n), rest) }
+{
+    initial == if is_text { 0x78 } else { 0x58 }
 }
 
 /// Returns the length of the number, the simple value or the string at the beginning of the bytes,

@@ -9,7 +9,7 @@ ghost use Rattle.passkey_cbor.specs.CursorState.{IsInside};
 use crate::cursor::{Cursor, Next};
 
 // The bytes after `front`, if they begin with it.
-fn behind<'b>(bytes: &'b [u8], front: &[u8]) -> Option<&'b [u8]>
+fn following<'b>(bytes: &'b [u8], front: &[u8]) -> Option<&'b [u8]>
     ensures { MatchOption result ((rest : List ℕ) → bytes.now ≡ front.now ++ rest → ⊥)
         (λ rest. bytes.now ≡ front.now ++ rest.now) }
 {
@@ -28,9 +28,9 @@ fn begin_of<'n>(name: &'n [u8], front: &[u8], more: &[u8]) -> Option<&'n [u8]>
     ensures begins { is_some result ≡ begins (front.now ++ more.now) name.now }
     ensures same { IfSome result (λ s. s.now ≡ front.now ++ more.now) }
 {
-    match behind(name, front) {
+    match following(name, front) {
         None => None,
-        Some(others) => match behind(others, more) {
+        Some(others) => match following(others, more) {
             None => None,
             Some(_) => Some(&name[..front.len() + more.len()]),
         },

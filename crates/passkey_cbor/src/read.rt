@@ -94,7 +94,7 @@ impl<'a> Cursor<'a> {
             → Values x to self.old self.new result }
 
         // The counts never decrease.
-        ensures went { MovesForward self.old self.new }
+        ensures moves { MovesForward self.old self.new }
     {
         let place = self.place;
         if !self.skip() {
@@ -122,7 +122,7 @@ impl<'a> Cursor<'a> {
         ensures moved { OnOk result (self.old.place < self.new.place) }
         ensures counts { OnOk result (CountsHeads self.old self.new) }
         ensures stays { OnErr result (self.new.place ≡ self.old.place) }
-        ensures went { MovesForward self.old self.new }
+        ensures moves { MovesForward self.old self.new }
     {
         let place = self.place;
         let mut value = Value::Null;
@@ -148,14 +148,14 @@ impl<'a> Cursor<'a> {
     {
         match self.decode() {
             None => Err(CborError::DecodeFailed),
-            Some(head) => self.build_behind(alloc, head, levels, out),
+            Some(head) => self.build_after(alloc, head, levels, out),
         }
     }
 
     // Builds a data item whose head is decoded already, and counts it.
     #[cycle(build)]
     #[inline(always)]
-    fn build_behind(
+    fn build_after(
         &mut self,
         alloc: Global,
         head: Head,
@@ -341,7 +341,7 @@ impl<'a> Cursor<'a> {
                 Next::End => return Ok(()),
                 Next::Element(head) => {
                     let mut item = Value::Null;
-                    self.build_behind(alloc, head, levels, &mut item)?;
+                    self.build_after(alloc, head, levels, &mut item)?;
                     items.push(item)?;
                 }
             }
@@ -394,7 +394,7 @@ impl<'a> Cursor<'a> {
         ensures { Makes a_pair (content_len head) (pair_by (item_within levels) head (ahead self.old)) self.old
             self.new (built (key.new, value.new) result) }
     {
-        self.build_behind(alloc, head, levels, key)?;
+        self.build_after(alloc, head, levels, key)?;
         self.build_item(alloc, levels, value)?;
         Ok(())
     }

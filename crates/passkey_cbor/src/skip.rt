@@ -84,7 +84,7 @@ impl<'a> Cursor<'a> {
             → Passes to self.old self.new result }
 
         // The counts never decrease.
-        ensures went { MovesForward self.old self.new }
+        ensures moves { MovesForward self.old self.new }
     {
         let place = self.place;
         let found = self.skip_item();
@@ -105,7 +105,7 @@ impl<'a> Cursor<'a> {
             → PassesNullAt x to self.old self.new result }
 
         // The counts never decrease.
-        ensures went { MovesForward self.old self.new }
+        ensures moves { MovesForward self.old self.new }
     {
         if self.begins_null() {
             return self.skip();

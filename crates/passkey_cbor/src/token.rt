@@ -1,7 +1,9 @@
 //! Strings that are borrowed without a copy, in one piece or in chunks.
-ghost use Rattle.std.specs.Prelude.{◌≡◌, ◌+◌, ◌≤◌, true, false, [], ◌∷◌, ◌++◌, take, drop, length, map, option_map, IfOk, IfSome, MatchOption, None, Some as There};
+ghost use Rattle.std.specs.Prelude.{◌≡◌, ◌+◌, ◌≤◌, true, false, [], ◌∷◌, ◌++◌, take, drop, length, map, option_map, IfOk, IfSome};
+ghost use Rattle.std.specs.Prelude.{MatchOption, None, Some as There};
 ghost use Rattle.std.specs.String.{string_bytes};
-ghost use Rattle.passkey_cbor.specs.Lent.{LendsString, PassesString, LendsEncoded, LentWhole, LooksToCopy, LooksAtAll, LooksToFill, IsNamed, Copies, Fills, IsRegion, IsSized, HoldsString};
+ghost use Rattle.passkey_cbor.specs.Lent.{LendsString, PassesString, LendsEncoded, LentWhole, LooksToCopy, LooksAtAll};
+ghost use Rattle.passkey_cbor.specs.Lent.{LooksToFill, IsNamed, Copies, Fills, IsRegion, IsSized, HoldsString};
 ghost use Rattle.passkey_cbor.specs.Names.{IsNameOf, LooksFor};
 ghost use Rattle.passkey_cbor.specs.Steps.{ReadsRegion, ReadsString, CountsAll};
 ghost use Rattle.passkey_cbor.specs.Reading.{is_allowed};
@@ -9,7 +11,7 @@ ghost use Rattle.passkey_cbor.specs.HeadsDecoded.{string_heads};
 ghost use Rattle.passkey_cbor.specs.CursorState.{ahead, raised, IsInside, MovesForward};
 
 use crate::cursor::{Cursor, Next, is_plain};
-use crate::leaf::short_head;
+use crate::leaf::short_string_head;
 use crate::names::name_of;
 use crate::read::copied;
 use crate::text_chunks::TextChunks;
@@ -71,11 +73,14 @@ impl<'a> Cursor<'a> {
         ensures lends { LendsEncoded true self.old self.new result }
 
         // The counts never decrease.
-        ensures went { MovesForward self.old self.new }
+        ensures moves { MovesForward self.old self.new }
     {
-        match self.string(true) {
-            None => None,
-            Some((len, region, _)) => Some(TextToken { len, region }),
+        match self.short_string(true) {
+            Some(region) => Some(TextToken {
+                len: Some(region.len() as u64),
+                region,
+            }),
+            None => self.other_text(),
         }
     }
 
@@ -89,28 +94,41 @@ impl<'a> Cursor<'a> {
         ensures lends { LendsEncoded false self.old self.new result }
 
         // The counts never decrease.
-        ensures went { MovesForward self.old self.new }
+        ensures moves { MovesForward self.old self.new }
     {
-        match self.string(false) {
-            None => None,
-            Some((len, region, size)) => Some(BytesToken { len, region, size }),
+        match self.short_string(false) {
+            Some(region) => Some(BytesToken {
+                len: Some(region.len() as u64),
+                region,
+                size: region.len(),
+            }),
+            None => self.other_bytes(),
         }
     }
 
-    // Passes a string of this kind; returns the length in its head, the bytes after the head, and
-    // the string's length in bytes. `None`, and the cursor doesn't move, if none follows.
-    #[inline(always)]
-    fn string(&mut self, is_text: bool) -> Option<(Option<u64>, &'a [u8], usize)>
-        ensures front { LendsString is_text self.old self.new
-            (option_map (λ r. record { len = r.0; bytes = r.1.now }) result) }
-        ensures lends { LendsEncoded is_text self.old self.new
-            (option_map (λ r. record { len = r.0; bytes = r.1.now }) result) }
-        ensures went { MovesForward self.old self.new }
-        ensures size { IfSome result (λ r. IsSized is_text (record { len = r.0; bytes = r.1.now }) r.2) }
+    // The same as `text`, for any text string. Not inlined, so that a short one needs no room for it.
+    #[inline(never)]
+    fn other_text(&mut self) -> Option<TextToken<'a>>
+        ensures front { LendsString true self.old self.new result }
+        ensures lends { LendsEncoded true self.old self.new result }
+        ensures moves { MovesForward self.old self.new }
     {
-        match self.short_string(is_text) {
-            Some(content) => Some((Some(content.len() as u64), content, content.len())),
-            None => self.other_string(is_text),
+        match self.other_string(true) {
+            None => None,
+            Some((len, region, _)) => Some(TextToken { len, region }),
+        }
+    }
+
+    // The same as `bytes`, for any byte string.
+    #[inline(never)]
+    fn other_bytes(&mut self) -> Option<BytesToken<'a>>
+        ensures front { LendsString false self.old self.new result }
+        ensures lends { LendsEncoded false self.old self.new result }
+        ensures moves { MovesForward self.old self.new }
+    {
+        match self.other_string(false) {
+            None => None,
+            Some((len, region, size)) => Some(BytesToken { len, region, size }),
         }
     }
 
@@ -120,14 +138,10 @@ impl<'a> Cursor<'a> {
     fn short_string(&mut self, is_text: bool) -> Option<&'a [u8]>
         ensures passes { MatchOption result (self.new ≡ self.old) (λ s. PassesString is_text self.old self.new
             (record { len = There (length s.now); bytes = s.now })) }
-        ensures went { MovesForward self.old self.new }
+        ensures moves { MovesForward self.old self.new }
     {
         let bytes = self.bytes;
-        let (head_len, head) = short_head(&bytes[self.place..])?;
-        let Some(Some(len)) = head.string_len(is_text) else {
-            return None;
-        };
-        let len = len as usize;
+        let (head_len, len) = short_string_head(is_text, &bytes[self.place..])?;
         let rest = &bytes[self.place + head_len..];
         if rest.len() < len {
             return None;
@@ -147,7 +161,7 @@ impl<'a> Cursor<'a> {
             (option_map (λ r. record { len = r.0; bytes = r.1.now }) result) }
         ensures lends { LendsEncoded is_text self.old self.new
             (option_map (λ r. record { len = r.0; bytes = r.1.now }) result) }
-        ensures went { MovesForward self.old self.new }
+        ensures moves { MovesForward self.old self.new }
         ensures size { IfSome result (λ r. IsSized is_text (record { len = r.0; bytes = r.1.now }) r.2) }
     {
         let place = self.place;
@@ -163,7 +177,7 @@ impl<'a> Cursor<'a> {
     fn string_ahead(&mut self, is_text: bool) -> Option<(Option<u64>, &'a [u8], usize)>
         ensures reads { ReadsString is_text self.old self.new
             (option_map (λ r. record { len = r.0; bytes = r.1.now }) result) }
-        ensures went { MovesForward self.old self.new }
+        ensures moves { MovesForward self.old self.new }
         ensures size { IfSome result (λ r. IsSized is_text (record { len = r.0; bytes = r.1.now }) r.2) }
     {
         match self.decode() {
@@ -185,7 +199,7 @@ impl<'a> Cursor<'a> {
         requires { IsInside self.old }
         ensures reads { ReadsRegion is_text len self.old self.new (option_map (λ r. r.0.now) result) }
         ensures decoded { self.new.heads ≡ raised self.old.heads (string_heads is_text len (ahead self.old)) }
-        ensures went { MovesForward self.old self.new }
+        ensures moves { MovesForward self.old self.new }
         ensures size { IfSome result (λ r. IsSized is_text (record { len = len; bytes = r.0.now }) r.1) }
     {
         let bytes = self.bytes;

@@ -24,11 +24,11 @@ pub(crate) fn push_byte(out: &mut Vec<u8>, byte: u8) -> Result<(), AllocError>
 }
 
 /// Appends an initial byte and the bytes after it.
-fn push_bytes(out: &mut Vec<u8>, initial: u8, behind: &[u8]) -> Result<(), AllocError>
-    ensures { OnOk result (out.new.items ≡ out.old.items ++ initial ∷ behind.now) }
+fn push_bytes(out: &mut Vec<u8>, initial: u8, following: &[u8]) -> Result<(), AllocError>
+    ensures { OnOk result (out.new.items ≡ out.old.items ++ initial ∷ following.now) }
 {
     out.push(initial)?;
-    out.extend_from_slice(behind)
+    out.extend_from_slice(following)
 }
 
 /// Appends the shortest encoding of a head.

@@ -8,12 +8,12 @@ use Rattle.std.proofs.lemmas.List.{append-nil, drop_all}
 use Rattle.std.proofs.lemmas.Bool.{ne_eqb}
 use native.Mathlib.Numerals.{unary_clauses}
 use Rattle.passkey_cbor_text.specs.diagnose.Diagnosis.{have_no_items, have_no_pairs, items_text, pairs_text}
-use Rattle.passkey_cbor_text.specs.diagnose.FloatText.{digits_behind, halved_text, quotient_text}
+use Rattle.passkey_cbor_text.specs.diagnose.FloatText.{digits_after, halved_text, quotient_text}
 
 -- the digits after the point, and those that are still to be written
 pub record WritesDigits (left rest whole count first : ℕ) (old new : List ℕ) : Type 0 where
   pub below : rest < whole
-  pub written : new ++ digits_behind left rest whole ≡ old ++ digits_behind count first whole
+  pub written : new ++ digits_after left rest whole ≡ old ++ digits_after count first whole
 
 pub digit_below : (rest whole : ℕ) → rest < whole → rest * 10 / whole < 10
 digit_below rest whole h = (div-lt_iff_lt-mul {k = whole} (omega (arith, h))).1 (omega (arith, h))
@@ -24,10 +24,10 @@ pub digit_written : (left next rest whole count first byte : ℕ) (old out new :
     → WritesDigits next (rest * 10 % whole) whole count first old new
 digit_written left next rest whole count first byte old out new one_less w is appended = record {
   below = omega (arith, w.below);
-  written = ap (λ (s : List ℕ). s ++ digits_behind next (rest * 10 % whole) whole) appended
-      ∙ append_assoc out (byte ∷ []) (digits_behind next (rest * 10 % whole) whole)
-      ∙ ap (λ (n : ℕ). out ++ n ∷ digits_behind next (rest * 10 % whole) whole) is
-      ∙ ap (λ (n : ℕ). out ++ digits_behind n rest whole) (sym one_less)
+  written = ap (λ (s : List ℕ). s ++ digits_after next (rest * 10 % whole) whole) appended
+      ∙ append_assoc out (byte ∷ []) (digits_after next (rest * 10 % whole) whole)
+      ∙ ap (λ (n : ℕ). out ++ n ∷ digits_after next (rest * 10 % whole) whole) is
+      ∙ ap (λ (n : ℕ). out ++ digits_after n rest whole) (sym one_less)
       ∙ w.written;
 }
 

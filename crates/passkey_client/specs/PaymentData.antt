@@ -1,4 +1,4 @@
--- The payment that the user confirmed, a further member of client data (W3C Secure Payment Confirmation).
+-- The payment that the user confirmed, another member of client data (W3C Secure Payment Confirmation).
 use Rattle.std.specs.Prelude.{◌≡◌, ℕ, Bool, true, false, if◌then◌else◌, List, [], ◌∷◌, Option, Some, None, Result, Ok, codes, option_and_then, refl}
 use Rattle.std.specs.Str.{bytes_eq}
 use Rattle.passkey_webauthn_json.specs.client_data.ClientDataType.{client_data_type_value}

@@ -1,4 +1,4 @@
--- The origin of the top-level page, a further member of client data (WebAuthn Level 3, section 5.8.1).
+-- The origin of the top-level page, another member of client data (WebAuthn Level 3, section 5.8.1).
 use Rattle.std.specs.Prelude.{◌≡◌, ℕ, Bool, true, List, Option, Some, None, codes, refl}
 use Rattle.std.specs.Str.{bytes_eq}
 use Rattle.passkey_webauthn_json.specs.client_data.ExtraData.{are_extra}

@@ -1,6 +1,7 @@
 //! Inputs and outputs of the client extension payment (W3C Secure Payment Confirmation).
 ghost use Rattle.std.specs.Prelude.{◌≡◌, IfOk};
-ghost use Rattle.passkey_client.specs.Payment.{browser_bound_signature, currency_amount, payment_entity_logo, payment_inputs, payment_instrument, payment_outputs};
+ghost use Rattle.passkey_client.specs.Payment.{browser_bound_signature, currency_amount, payment_entity_logo, payment_inputs};
+ghost use Rattle.passkey_client.specs.Payment.{payment_instrument, payment_outputs};
 
 use passkey_bytes::{Bytes, List, Text};
 use passkey_json::{EncodeResult, JsonEncoder, JsonFault, Member, PlainJsonRecord, Row, place};

@@ -1,5 +1,6 @@
-//! The payment that the user confirmed, a further member of client data.
-ghost use Rattle.passkey_client.specs.PaymentData.{additional_payment_data, is_creation, is_payment, payment_in, payment_members, payment_members_are_extra, payment_takes, registration_payment_data};
+//! The payment that the user confirmed, another member of client data.
+ghost use Rattle.passkey_client.specs.PaymentData.{additional_payment_data, is_creation, is_payment, payment_in, payment_members};
+ghost use Rattle.passkey_client.specs.PaymentData.{payment_members_are_extra, payment_takes, registration_payment_data};
 ghost use Rattle.std.specs.Prelude.{◌≡◌, IfOk};
 
 use crate::payment::{

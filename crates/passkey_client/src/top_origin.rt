@@ -1,4 +1,4 @@
-//! The origin of the top-level page, a further member of client data.
+//! The origin of the top-level page, another member of client data.
 ghost use Rattle.passkey_client.specs.TopOrigin.{is_top_origin, origin_members, origin_members_are_extra};
 
 use passkey_bytes::Text;

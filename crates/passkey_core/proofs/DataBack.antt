@@ -14,7 +14,7 @@ use Rattle.passkey_cbor.specs.Item.{Item, map}
 use Rattle.passkey_cbor.specs.Laws.{WrittenIsLeadingItem}
 use Rattle.passkey_cbor.specs.Writable.{IsWritable}
 use Rattle.passkey_cbor.specs.Written.{written}
-use Rattle.passkey_cbor.proofs.Numbers.{length-to_be_bytes}
+use Rattle.passkey_cbor.proofs.heads.Numbers.{length-to_be_bytes}
 use Rattle.passkey_cose.specs.KeyLaws.{WrittenIsReadBack}
 use Rattle.passkey_cose.specs.KeyReadable.{is_shallow, is_reserved, is_key_readable}
 use Rattle.passkey_cose.specs.KeyNormal.{normal_key}
@@ -167,8 +167,8 @@ data_back_then {Y} law keys finish d rest valid coherent =
     attested) (agrees are_extensions_readable (has_flag extensions_flag d.flags) extensions) coherent in
     let known = and_parts (bit_and d.flags reserved_flags == 0)
     (agrees key_of (has_flag attested_flag d.flags) attested) front.0 in
-    let behind : List ℕ = unwrap_or (option_map written extensions) [] ++ rest in
-    let last : List ℕ = unwrap_or (option_map attested_written attested) [] ++ behind in
+    let following : List ℕ = unwrap_or (option_map written extensions) [] ++ rest in
+    let last : List ℕ = unwrap_or (option_map attested_written attested) [] ++ following in
     let same : flags_written d.flags attested ≡ d.flags = flags_back key_of d.flags attested known.1 in
     let flat : data_written d ++ rest ≡ d.rp_id_hash ++ ((flags_written d.flags attested ∷ [])
     ++ (to_be_bytes w32 (unwrap_or d.counter 0) ++ last)) = simp append_assoc in
@@ -182,9 +182,9 @@ data_back_then {Y} law keys finish d rest valid coherent =
       begun = Ok (bare_data d.rp_id_hash d.flags (Some (unwrap_or d.counter 0)), last);
       begins = sym fixed;
       goes_on = record {
-        begun = Ok (option_map normal_attested attested, behind);
+        begun = Ok (option_map normal_attested attested, following);
         begins = where_back IsAttested key_of attested_written normal_attested ReadsAttested
-            (attested_back law keys) (has_flag attested_flag d.flags) attested behind valid.attested known.1;
+            (attested_back law keys) (has_flag attested_flag d.flags) attested following valid.attested known.1;
         goes_on = record {
           begun = Ok (option_map (λ x. x) extensions, rest);
           begins = where_back IsWritable are_extensions_readable written (λ x. x) (ReadsItem read_map)

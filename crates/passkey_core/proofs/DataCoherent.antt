@@ -32,15 +32,15 @@ record MovesForward {X Y : Type 0} (begun : Begun X) (next : X × List ℕ → R
   begins : begun ≡ Ok part
   goes_on : next part ≡ Ok y
 
-went : {X Y : Type 0} (begun : Begun X) (next : X × List ℕ → Result Y CoseError) (y : Y) → (begun >>= next) ≡ Ok y
+moves : {X Y : Type 0} (begun : Begun X) (next : X × List ℕ → Result Y CoseError) (y : Y) → (begun >>= next) ≡ Ok y
     → MovesForward begun next y
-went (Ok p) next y e = record { part = p; begins = refl; goes_on = e }
-went (Err f) next y e = cc
+moves (Ok p) next y e = record { part = p; begins = refl; goes_on = e }
+moves (Err f) next y e = cc
 
 -- what is found has the property if the last step's result has it
-found_has : {X : Type 0} (Holds : X → Type 0) (x : X) (behind : List ℕ) (p : X × List ℕ)
-    → (let b : Begun X = Ok (x, behind) in b) ≡ Ok p → Holds x → Holds p.0
-found_has {X} Holds x behind p e h = subst (λ (q : X × List ℕ). Holds q.0) (ok_is (x, behind) p e) h
+found_has : {X : Type 0} (Holds : X → Type 0) (x : X) (following : List ℕ) (p : X × List ℕ)
+    → (let b : Begun X = Ok (x, following) in b) ≡ Ok p → Holds x → Holds p.0
+found_has {X} Holds x following p e h = subst (λ (q : X × List ℕ). Holds q.0) (ok_is (x, following) p e) h
 
 -- ---- data items
 
@@ -72,8 +72,8 @@ attested_readable : GivenIsShallow → ReadIsReadable → (bytes : List ℕ) (p 
     → attested_at bytes ≡ Ok p → is_key_readable p.0.key ≡ true
 unfolding attested_at
 attested_readable shallow law bytes p e =
-    let ids = went (ids_at bytes) _ p e in
-    let key = went (item_at read_key ids.part.1) _ p ids.goes_on in
+    let ids = moves (ids_at bytes) _ p e in
+    let key = moves (item_at read_key ids.part.1) _ p ids.goes_on in
     found_has (λ (a : AttestedParts). is_key_readable a.key ≡ true)
     (record { aaguid = ids.part.0.0; credential_id = ids.part.0.1; key = key.part.0 }) key.part.1 p key.goes_on
     (item_readable shallow read_key is_key_readable law ids.part.1 key.part key.begins)
@@ -82,7 +82,7 @@ where_agrees : {X : Type 0} (is_readable : X → Bool) (part_at : List ℕ → B
     → ((p : X × List ℕ) → part_at bytes ≡ Ok p → is_readable p.0 ≡ true) → (flagged : Bool) (p : Option X × List ℕ)
     → where_at flagged part_at bytes ≡ Ok p → agrees is_readable flagged p.0 ≡ true
 where_agrees {X} is_readable part_at bytes each true p e =
-    let w = went (part_at bytes) (λ q. Ok (Some q.0, q.1)) p e in
+    let w = moves (part_at bytes) (λ q. Ok (Some q.0, q.1)) p e in
     found_has (λ (o : Option X). agrees is_readable true o ≡ true) (Some w.part.0) w.part.1 p w.goes_on
     (each w.part w.begins)
 where_agrees {X} is_readable part_at bytes each false p e =
@@ -103,12 +103,12 @@ fixed_known bytes p e =
 pub given_is_coherent : GivenIsShallow → ReadIsReadable → GivenIsCoherent
 unfolding read_data
 given_is_coherent shallow law bytes d e =
-    let fixed = went (fixed_at bytes) _ d e in
+    let fixed = moves (fixed_at bytes) _ d e in
     let flags = fixed.part.0.flags in
     let key_of : AttestedParts → Bool = λ a. is_key_readable a.key in
-    let attested = went (where_at (has_flag attested_flag flags) attested_at fixed.part.1) _ d fixed.goes_on in
+    let attested = moves (where_at (has_flag attested_flag flags) attested_at fixed.part.1) _ d fixed.goes_on in
     let extensions =
-    went (where_at (has_flag extensions_flag flags) (item_at read_map) attested.part.1) _ d attested.goes_on in
+    moves (where_at (has_flag extensions_flag flags) (item_at read_map) attested.part.1) _ d attested.goes_on in
     let known = fixed_known bytes fixed.part fixed.begins in
     let attested_agrees = where_agrees key_of attested_at fixed.part.1 (attested_readable shallow law fixed.part.1)
     (has_flag attested_flag flags) attested.part attested.begins in

@@ -11,13 +11,13 @@ use Rattle.passkey_cbor.specs.CursorState.{CursorState, ahead, raised}
 use Rattle.passkey_cbor.specs.declared.count.Count.{Count}
 use Rattle.passkey_cbor.specs.declared.error.CborError.{CborError}
 use Rattle.passkey_cbor.specs.declared.error.CborError.TheVariants as error
-use Rattle.passkey_cbor.proofs.LeadingItems.{front_given, given_front}
+use Rattle.passkey_cbor.proofs.items.LeadingItems.{front_given, given_front}
 use Rattle.std.proofs.lemmas.List.{length-drop}
 use Rattle.passkey_cose.specs.declared.error.CoseError.{CoseError}
 use Rattle.passkey_cose.specs.declared.error.CoseError.TheVariants as cose
 use Rattle.passkey_cose.specs.CoseErrors.{cose_error_of}
 use Rattle.passkey_core.specs.DataCounts.{Counts, CountsEach, ExceptOutOfMemory, UnlessOutOfMemory}
-use Rattle.passkey_core.specs.DataNodes.{given_nodes, given_heads, front_nodes, front_heads, count_behind, count_key, one}
+use Rattle.passkey_core.specs.DataNodes.{given_nodes, given_heads, front_nodes, front_heads, count_after, count_key, one}
 use Rattle.passkey_core.specs.DataReading.{Begun, ids_at}
 use Rattle.passkey_core.proofs.DataGiven.{none_given}
 use Rattle.passkey_core.proofs.DataShrinking.{ids_shrink}
@@ -217,22 +217,22 @@ moved places others bytes more old new r same longer h = record {
 
 -- ---- the key after the AAGUID and the credential id
 
-key_behind : (each : List ℕ → ℕ) (bytes : List ℕ) (ids : List ℕ × List ℕ) (rest : List ℕ)
+key_after : (each : List ℕ → ℕ) (bytes : List ℕ) (ids : List ℕ × List ℕ) (rest : List ℕ)
     → Ok (ids, rest) ≡ ids_at bytes → count_key each bytes ≡ each rest
 unfolding count_key
-key_behind each bytes ids rest h =
-    ap (λ (begun : Begun (List ℕ × List ℕ)). count_behind begun (λ p. each p.1)) (sym h)
+key_after each bytes ids rest h =
+    ap (λ (begun : Begun (List ℕ × List ℕ)). count_after begun (λ p. each p.1)) (sym h)
 
 no_key : (each : List ℕ → ℕ) (bytes : List ℕ) (e : CoseError) → Err e ≡ ids_at bytes → count_key each bytes ≡ 0
 unfolding count_key
-no_key each bytes e h = ap (λ (begun : Begun (List ℕ × List ℕ)). count_behind begun (λ p. each p.1)) (sym h)
+no_key each bytes e h = ap (λ (begun : Begun (List ℕ × List ℕ)). count_after begun (λ p. each p.1)) (sym h)
 
-pub counts_behind_ids : {A : Type 0} (bytes : List ℕ) (ids : List ℕ × List ℕ) (rest : List ℕ) (old new : Count)
+pub counts_after_ids : {A : Type 0} (bytes : List ℕ) (ids : List ℕ × List ℕ) (rest : List ℕ) (old new : Count)
     (r : Result (A × Bor (List ℕ)) CoseError) → Ok (ids, rest) ≡ ids_at bytes
     → Counts (λ each. each rest) rest old new r → Counts (λ each. count_key each bytes) bytes old new r
-counts_behind_ids bytes ids rest old new r is_ids h =
+counts_after_ids bytes ids rest old new r is_ids h =
     moved (λ each. each rest) (λ each. count_key each bytes) rest bytes old new r
-    (λ each. key_behind each bytes ids rest is_ids) (ids_shrink bytes ids rest is_ids) h
+    (λ each. key_after each bytes ids rest is_ids) (ids_shrink bytes ids rest is_ids) h
 
 pub counts_no_key : {A : Type 0} (bytes : List ℕ) (e fault : CoseError) (count : Count) → Err e ≡ ids_at bytes
     → Counts {A = A} (λ each. count_key each bytes) bytes count count (Err fault)

@@ -8,7 +8,7 @@ use Rattle.passkey_cbor.specs.LeadingItem.{HasNoLeadingItem}
 use Rattle.passkey_cbor.specs.LeadingItemAt.{leading_item_at, IsLeadingItemOf}
 use Rattle.passkey_cbor.specs.Item.{Item}
 use Rattle.passkey_cbor.specs.Laws.{LeadingItemIsFound, FoundIsLeadingItem}
-use Rattle.passkey_cbor.proofs.Numbers.{IsBytes-drop}
+use Rattle.passkey_cbor.proofs.heads.Numbers.{IsBytes-drop}
 use Rattle.passkey_cose.specs.KeyReading.{read_key}
 use Rattle.passkey_cose.specs.declared.error.CoseError.{CoseError}
 use Rattle.passkey_cose.specs.declared.error.CoseError.TheVariants.{DecodeFailed, OutOfRangeIntegerValue}
@@ -16,7 +16,7 @@ use Rattle.passkey_core.specs.DataFlags.{has_flag, attested_flag, extensions_fla
 use Rattle.passkey_core.specs.DataLaws.{ReadIsGiven, GivenIsRead}
 use Rattle.passkey_core.specs.DataParts.{DataParts}
 use Rattle.passkey_core.specs.DataRead.{judged_front, item_at, attested_at, where_at, read_data}
-use Rattle.passkey_core.specs.DataReading.{Begun, ◌>>=◌, bytes_at, known_only, fixed_at, ids_at, read_map, ReadsItem, Behind, ReadsThen, ReadsAttested, ReadsWhere}
+use Rattle.passkey_core.specs.DataReading.{Begun, ◌>>=◌, bytes_at, known_only, fixed_at, ids_at, read_map, ReadsItem, After, ReadsThen, ReadsAttested, ReadsWhere}
 use Rattle.passkey_core.specs.Flags.{reserved_flags}
 use Rattle.passkey_core.proofs.DataReadings.{MovesForward, then_went}
 
@@ -26,10 +26,10 @@ abbrev pub LeavesBytes : {X : Type 0} → Begun X → Type 0
 LeavesBytes (Ok p) = IsBytes p.1
 LeavesBytes (Err e) = Unit {0}
 
-leaves_behind : {X Y : Type 0} (begun : Begun X) (next : X × List ℕ → Begun Y) → LeavesBytes begun
+leaves_after : {X Y : Type 0} (begun : Begun X) (next : X × List ℕ → Begun Y) → LeavesBytes begun
     → ((p : X × List ℕ) → IsBytes p.1 → LeavesBytes (next p)) → LeavesBytes (begun >>= next)
-leaves_behind (Ok p) next fits each = each p fits
-leaves_behind (Err e) next fits each = tt
+leaves_after (Ok p) next fits each = each p fits
+leaves_after (Err e) next fits each = tt
 
 bytes_leave : (n : ℕ) (bytes : List ℕ) → IsBytes bytes → LeavesBytes (bytes_at n bytes)
 bytes_leave n bytes fits =
@@ -50,17 +50,17 @@ known_leaves d rest fits =
 pub fixed_leave : (bytes : List ℕ) → IsBytes bytes → LeavesBytes (fixed_at bytes)
 unfolding fixed_at
 fixed_leave bytes fits =
-    leaves_behind (bytes_at 32 bytes) _ (bytes_leave 32 bytes fits) (λ hash hash_fits.
-    leaves_behind (bytes_at 1 hash.1) _ (bytes_leave 1 hash.1 hash_fits) (λ flags flags_fit.
-    leaves_behind (bytes_at 4 flags.1) _ (bytes_leave 4 flags.1 flags_fit)
+    leaves_after (bytes_at 32 bytes) _ (bytes_leave 32 bytes fits) (λ hash hash_fits.
+    leaves_after (bytes_at 1 hash.1) _ (bytes_leave 1 hash.1 hash_fits) (λ flags flags_fit.
+    leaves_after (bytes_at 4 flags.1) _ (bytes_leave 4 flags.1 flags_fit)
     (λ counter counter_fits. known_leaves _ counter.1 counter_fits)))
 
 ids_leave : (bytes : List ℕ) → IsBytes bytes → LeavesBytes (ids_at bytes)
 unfolding ids_at
 ids_leave bytes fits =
-    leaves_behind (bytes_at 16 bytes) _ (bytes_leave 16 bytes fits) (λ aaguid aaguid_fits.
-    leaves_behind (bytes_at 2 aaguid.1) _ (bytes_leave 2 aaguid.1 aaguid_fits) (λ len len_fits.
-    leaves_behind (bytes_at (from_be_bytes w16 len.0) len.1) _
+    leaves_after (bytes_at 16 bytes) _ (bytes_leave 16 bytes fits) (λ aaguid aaguid_fits.
+    leaves_after (bytes_at 2 aaguid.1) _ (bytes_leave 2 aaguid.1 aaguid_fits) (λ len len_fits.
+    leaves_after (bytes_at (from_be_bytes w16 len.0) len.1) _
     (bytes_leave (from_be_bytes w16 len.0) len.1 len_fits) (λ id id_fits. id_fits)))
 
 -- ---- what `read_data` returns is the reading
@@ -70,17 +70,17 @@ record Reads {X : Type 0} (is_right : Begun X → Type 0) (begun : Begun X) : Ty
   right : is_right begun
   leaves : LeavesBytes begun
 
-behind_right : {X Y : Type 0} (next : X → List ℕ → Result Y CoseError → Type 0) (begun : Begun X)
+following_right : {X Y : Type 0} (next : X → List ℕ → Result Y CoseError → Type 0) (begun : Begun X)
     (go_on : X × List ℕ → Result Y CoseError) → LeavesBytes begun
-    → ((p : X × List ℕ) → IsBytes p.1 → next p.0 p.1 (go_on p)) → Behind next begun (begun >>= go_on)
-behind_right next (Ok p) go_on fits each = each p fits
-behind_right next (Err e) go_on fits each = refl
+    → ((p : X × List ℕ) → IsBytes p.1 → next p.0 p.1 (go_on p)) → After next begun (begun >>= go_on)
+following_right next (Ok p) go_on fits each = each p fits
+following_right next (Err e) go_on fits each = refl
 
 then_right : {X Y : Type 0} (first : Begun X → Type 0) (next : X → List ℕ → Result Y CoseError → Type 0)
     (begun : Begun X) (go_on : X × List ℕ → Result Y CoseError) → Reads first begun
     → ((p : X × List ℕ) → IsBytes p.1 → next p.0 p.1 (go_on p)) → ReadsThen first next (begun >>= go_on)
 then_right first next begun go_on r each =
-    record { begun = begun; begins = r.right; goes_on = behind_right next begun go_on r.leaves each }
+    record { begun = begun; begins = r.right; goes_on = following_right next begun go_on r.leaves each }
 
 judged_leaves : {X : Type 0} (rest : List ℕ) → IsBytes rest → (r : Result X CoseError)
     → LeavesBytes (result_map_both (λ (x : X). (let p : X × List ℕ = (x, rest) in p)) (λ e. e) r)
@@ -95,9 +95,9 @@ front_reads {X} read bytes fits (Some r) f = record {
     len = f.len;
     front = f.front;
     verdict = ap (λ (rest : List ℕ). result_map_both
-        (λ (x : X). (let p : X × List ℕ = (x, rest) in p)) (λ (e : CoseError). e) (read r.0)) f.behind;
+        (λ (x : X). (let p : X × List ℕ = (x, rest) in p)) (λ (e : CoseError). e) (read r.0)) f.following;
   });
-  leaves = judged_leaves r.1 (subst IsBytes (sym f.behind) (IsBytes-drop f.len bytes fits)) (read r.0);
+  leaves = judged_leaves r.1 (subst IsBytes (sym f.following) (IsBytes-drop f.len bytes fits)) (read r.0);
 }
 front_reads read bytes fits None f = record { right = inr (f, refl); leaves = tt }
 
@@ -113,8 +113,8 @@ attested_reads law bytes fits = record {
       (record { right = refl; leaves = ids_leave bytes fits }) (λ ids ids_fit.
       then_right (ReadsItem read_key ids.1) _ (item_at read_key ids.1) _ (item_reads law read_key ids.1 ids_fit)
       (λ key key_fits. refl));
-  leaves = leaves_behind (ids_at bytes) _ (ids_leave bytes fits) (λ ids ids_fit.
-      leaves_behind (item_at read_key ids.1) _ (item_reads law read_key ids.1 ids_fit).leaves
+  leaves = leaves_after (ids_at bytes) _ (ids_leave bytes fits) (λ ids ids_fit.
+      leaves_after (item_at read_key ids.1) _ (item_reads law read_key ids.1 ids_fit).leaves
       (λ key key_fits. key_fits));
 }
 
@@ -123,7 +123,7 @@ where_reads : {X : Type 0} (is_there : Bool) (part : List ℕ → Begun X → Ty
     → Reads (ReadsWhere is_there part bytes) (where_at is_there part_at bytes)
 where_reads true part part_at bytes fits r = record {
   right = then_right (part bytes) _ (part_at bytes) _ r (λ p p_fits. refl);
-  leaves = leaves_behind (part_at bytes) _ r.leaves (λ p p_fits. p_fits);
+  leaves = leaves_after (part_at bytes) _ r.leaves (λ p p_fits. p_fits);
 }
 where_reads false part part_at bytes fits r = record { right = refl; leaves = fits }
 
@@ -194,7 +194,7 @@ then_gives : {X Y : Type 0} (first : Begun X → Type 0) (next : X → List ℕ 
     → ((p : X × List ℕ) → IsBytes p.1 → GivesAll (next p.0 p.1) (go_on p))
     → GivesAll (ReadsThen first next) (begun >>= go_on)
 then_gives {X} first next begun go_on leaves gives each y h = by_begun h.begun (gives h.begun h.begins) h.goes_on where
-  by_begun : (b : Begun X) → begun ≡ b → Behind next b y → (begun >>= go_on) ≡ y
+  by_begun : (b : Begun X) → begun ≡ b → After next b y → (begun >>= go_on) ≡ y
   by_begun (Ok p) is on = ap (λ (b : Begun X). b >>= go_on) is ∙ each p (subst LeavesBytes is leaves) y on
   by_begun (Err e) is on = ap (λ (b : Begun X). b >>= go_on) is ∙ sym on
 

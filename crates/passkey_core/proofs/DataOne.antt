@@ -7,22 +7,22 @@ use Rattle.passkey_cose.specs.KeyReading.{read_key}
 use Rattle.passkey_cose.specs.declared.error.CoseError.{CoseError}
 use Rattle.passkey_core.specs.DataLaws.{OneReading}
 use Rattle.passkey_core.specs.DataFlags.{has_flag, attested_flag, extensions_flag}
-use Rattle.passkey_core.specs.DataReading.{Begun, fixed_at, ids_at, read_map, IsReadBy, ReadsItem, Behind, ReadsThen, ReadsAttested, ReadsWhere}
+use Rattle.passkey_core.specs.DataReading.{Begun, fixed_at, ids_at, read_map, IsReadBy, ReadsItem, After, ReadsThen, ReadsAttested, ReadsWhere}
 
 -- at most one result is right
 abbrev HasOne : {X : Type 0} → (X → Type 0) → Type 0
 HasOne {X = X} is_right = (a b : X) → is_right a → is_right b → a ≡ b
 
-behind_one : {X Y : Type 0} (next : X → List ℕ → Result Y CoseError → Type 0)
-    → ((x : X) (rest : List ℕ) → HasOne (next x rest)) → (begun : Begun X) → HasOne (Behind next begun)
-behind_one next each (Ok p) a b h k = each p.0 p.1 a b h k
-behind_one next each (Err e) a b h k = h ∙ sym k
+after_one : {X Y : Type 0} (next : X → List ℕ → Result Y CoseError → Type 0)
+    → ((x : X) (rest : List ℕ) → HasOne (next x rest)) → (begun : Begun X) → HasOne (After next begun)
+after_one next each (Ok p) a b h k = each p.0 p.1 a b h k
+after_one next each (Err e) a b h k = h ∙ sym k
 
 then_one : {X Y : Type 0} (first : Begun X → Type 0) (next : X → List ℕ → Result Y CoseError → Type 0)
     → HasOne first → ((x : X) (rest : List ℕ) → HasOne (next x rest)) → HasOne (ReadsThen first next)
 then_one first next one each a b p q =
     let same = one q.begun p.begun q.begins p.begins in
-    behind_one next each p.begun a b p.goes_on (subst (λ begun. Behind next begun b) same q.goes_on)
+    after_one next each p.begun a b p.goes_on (subst (λ begun. After next begun b) same q.goes_on)
 
 is_one : {X : Type 0} (x : X) → HasOne (λ (a : X). a ≡ x)
 is_one x a b h k = h ∙ sym k
@@ -59,7 +59,7 @@ pub one_reading : AtMostOneLeadingItem → OneReading
 one_reading law bytes =
     then_one (λ fixed. fixed ≡ fixed_at bytes) _ (is_one (fixed_at bytes)) (λ fixed rest.
     then_one (ReadsWhere (has_flag attested_flag fixed.flags) ReadsAttested rest) _ (where_one
-    (has_flag attested_flag fixed.flags) ReadsAttested rest (attested_one law rest)) (λ attested behind.
-    then_one (ReadsWhere (has_flag extensions_flag fixed.flags) (ReadsItem read_map) behind) _ (where_one
-    (has_flag extensions_flag fixed.flags) (ReadsItem read_map) behind (reads_one law read_map behind))
+    (has_flag attested_flag fixed.flags) ReadsAttested rest (attested_one law rest)) (λ attested following.
+    then_one (ReadsWhere (has_flag extensions_flag fixed.flags) (ReadsItem read_map) following) _ (where_one
+    (has_flag extensions_flag fixed.flags) (ReadsItem read_map) following (reads_one law read_map following))
     (λ extensions last. is_one (Ok (record fixed { attested = attested; extensions = extensions })))))

@@ -10,7 +10,7 @@ use Rattle.passkey_core.specs.DataParts.{AttestedParts, DataParts}
 use Rattle.passkey_core.specs.Flags.{reserved_flags}
 use Rattle.passkey_core.specs.DataFlags.{has_flag, attested_flag, extensions_flag}
 use Rattle.passkey_core.specs.DataAnswers.{Returns}
-use Rattle.passkey_core.specs.DataReading.{Begun, ◌>>=◌, bytes_at, known_only, fixed_at, read_map, ReadsItem, Behind, ReadsThen, ReadsAttested, ReadsWhere, ReadsDataThen, PartsGrow, DataGrows}
+use Rattle.passkey_core.specs.DataReading.{Begun, ◌>>=◌, bytes_at, known_only, fixed_at, read_map, ReadsItem, After, ReadsThen, ReadsAttested, ReadsWhere, ReadsDataThen, PartsGrow, DataGrows}
 
 -- an error of one reading is an error of another
 pub gives_fault : {A B C D : Type 0} (memory : Type 0) (other : Type 0) (seen : A → B) (told : C → D)
@@ -37,14 +37,14 @@ pub record MovesForward {X Y : Type 0} (first : Begun X → Type 0) (next : X �
   pub begins : first (Ok (part, rest))
   pub goes_on : next part rest (Ok y)
 
-went : {X Y : Type 0} (first : Begun X → Type 0) (next : X → List ℕ → Result Y CoseError → Type 0) (y : Y)
-    (begun : Begun X) → first begun → Behind next begun (Ok y) → MovesForward first next y
-went first next y (Ok p) b g = record { part = p.0; rest = p.1; begins = b; goes_on = g }
-went first next y (Err e) b g = cc
+moves : {X Y : Type 0} (first : Begun X → Type 0) (next : X → List ℕ → Result Y CoseError → Type 0) (y : Y)
+    (begun : Begun X) → first begun → After next begun (Ok y) → MovesForward first next y
+moves first next y (Ok p) b g = record { part = p.0; rest = p.1; begins = b; goes_on = g }
+moves first next y (Err e) b g = cc
 
 pub then_went : {X Y : Type 0} (first : Begun X → Type 0) (next : X → List ℕ → Result Y CoseError → Type 0) (y : Y)
     → ReadsThen first next (Ok y) → MovesForward first next y
-then_went first next y p = went first next y p.begun p.begins p.goes_on
+then_went first next y p = moves first next y p.begun p.begins p.goes_on
 
 pub at_shape : {Y : Type 0} (Q : Result Y CoseError → Type 0) → Q (Err DecodeFailed)
     → (n : ℕ) (bytes : List ℕ) (next : List ℕ × List ℕ → Result Y CoseError) → ((p : List ℕ × List ℕ) → Q (next p))
@@ -91,21 +91,22 @@ fixed_fails finish memory seen bytes e h =
     (subst (FailsAs finish memory seen bytes) h wanted) h
 
 pub extensions_fail : {A B Y : Type 0} (finish : DataParts → List ℕ → Result Y CoseError) (seen : A → Y)
-    (told : B → Option Item × List ℕ) (bytes : List ℕ) (fixed : DataParts) (rest : List ℕ) (attested : Option AttestedParts) (behind : List ℕ) (e : CoseError)
+    (told : B → Option Item × List ℕ) (bytes : List ℕ) (fixed : DataParts) (rest : List ℕ) (attested : Option AttestedParts)
+    (following : List ℕ) (e : CoseError)
     → Ok (fixed, rest) ≡ fixed_at bytes → ReadsWhere (has_flag attested_flag fixed.flags) ReadsAttested rest
-    (Ok (attested, behind)) → Returns ((has_flag extensions_flag fixed.flags ≡ true) × HasGrowingLeadingItem behind)
-    told (ReadsWhere (has_flag extensions_flag fixed.flags) (ReadsItem read_map) behind) (Err e)
+    (Ok (attested, following)) → Returns ((has_flag extensions_flag fixed.flags ≡ true) × HasGrowingLeadingItem following)
+    told (ReadsWhere (has_flag extensions_flag fixed.flags) (ReadsItem read_map) following) (Err e)
     → Returns (DataGrows bytes) seen (ReadsDataThen finish bytes) (Err e)
-extensions_fail finish seen told bytes fixed rest attested behind e is_fixed is_attested h =
-    gives_fault ((has_flag extensions_flag fixed.flags ≡ true) × HasGrowingLeadingItem behind) (DataGrows bytes) told
-    seen (ReadsWhere (has_flag extensions_flag fixed.flags) (ReadsItem read_map) behind) (ReadsDataThen finish bytes)
+extensions_fail finish seen told bytes fixed rest attested following e is_fixed is_attested h =
+    gives_fault ((has_flag extensions_flag fixed.flags ≡ true) × HasGrowingLeadingItem following) (DataGrows bytes) told
+    seen (ReadsWhere (has_flag extensions_flag fixed.flags) (ReadsItem read_map) following) (ReadsDataThen finish bytes)
     (λ grows. subst (λ (begun : Begun DataParts). IsOkAnd begun (λ p. PartsGrow p.0 p.1)) is_fixed
-    (inr (grows.0, record { attested = attested; behind = behind; begins = is_attested; grows = grows.1 })))
+    (inr (grows.0, record { attested = attested; following = following; begins = is_attested; grows = grows.1 })))
     (λ f g. record {
       begun = Ok (fixed, rest);
       begins = is_fixed;
       goes_on = record {
-        begun = Ok (attested, behind);
+        begun = Ok (attested, following);
         begins = is_attested;
         goes_on = record { begun = Err f; begins = g; goes_on = refl };
       };

@@ -12,10 +12,10 @@ abbrev Leaves : {X : Type 0} → ℕ → Begun X → Type 0
 Leaves n (Ok p) = length p.1 ≤ n
 Leaves n (Err e) = Unit {0}
 
-leaves_behind : {X Y : Type 0} (n : ℕ) (begun : Begun X) (next : X × List ℕ → Begun Y) → Leaves n begun
+leaves_after : {X Y : Type 0} (n : ℕ) (begun : Begun X) (next : X × List ℕ → Begun Y) → Leaves n begun
     → ((p : X × List ℕ) → length p.1 ≤ n → Leaves n (next p)) → Leaves n (begun >>= next)
-leaves_behind n (Ok p) next fewer each = each p fewer
-leaves_behind n (Err e) next fewer each = tt
+leaves_after n (Ok p) next fewer each = each p fewer
+leaves_after n (Err e) next fewer each = tt
 
 bytes_leave : (n k : ℕ) (bytes : List ℕ) → length bytes ≤ n → Leaves n (bytes_at k bytes)
 bytes_leave n k bytes fewer =
@@ -36,21 +36,21 @@ known_leaves n d rest fewer =
 fixed_leave : (bytes : List ℕ) → Leaves (length bytes) (fixed_at bytes)
 unfolding fixed_at
 fixed_leave bytes =
-    leaves_behind (length bytes) (bytes_at 32 bytes) _ (bytes_leave (length bytes) 32 bytes (omega arith))
+    leaves_after (length bytes) (bytes_at 32 bytes) _ (bytes_leave (length bytes) 32 bytes (omega arith))
     (λ hash hash_left.
-    leaves_behind (length bytes) (bytes_at 1 hash.1) _ (bytes_leave (length bytes) 1 hash.1 hash_left)
+    leaves_after (length bytes) (bytes_at 1 hash.1) _ (bytes_leave (length bytes) 1 hash.1 hash_left)
     (λ flags flags_left.
-    leaves_behind (length bytes) (bytes_at 4 flags.1) _ (bytes_leave (length bytes) 4 flags.1 flags_left)
+    leaves_after (length bytes) (bytes_at 4 flags.1) _ (bytes_leave (length bytes) 4 flags.1 flags_left)
     (λ counter counter_left. known_leaves (length bytes) _ counter.1 counter_left)))
 
 ids_leave : (bytes : List ℕ) → Leaves (length bytes) (ids_at bytes)
 unfolding ids_at
 ids_leave bytes =
-    leaves_behind (length bytes) (bytes_at 16 bytes) _ (bytes_leave (length bytes) 16 bytes (omega arith))
+    leaves_after (length bytes) (bytes_at 16 bytes) _ (bytes_leave (length bytes) 16 bytes (omega arith))
     (λ aaguid aaguid_left.
-    leaves_behind (length bytes) (bytes_at 2 aaguid.1) _ (bytes_leave (length bytes) 2 aaguid.1 aaguid_left)
+    leaves_after (length bytes) (bytes_at 2 aaguid.1) _ (bytes_leave (length bytes) 2 aaguid.1 aaguid_left)
     (λ len len_left.
-    leaves_behind (length bytes) (bytes_at (from_be_bytes w16 len.0) len.1) _
+    leaves_after (length bytes) (bytes_at (from_be_bytes w16 len.0) len.1) _
     (bytes_leave (length bytes) (from_be_bytes w16 len.0) len.1 len_left) (λ id id_left. id_left)))
 
 pub fixed_shrink : (bytes : List ℕ) (fixed : DataParts) (rest : List ℕ) → Ok (fixed, rest) ≡ fixed_at bytes

@@ -3,13 +3,13 @@ use Rattle.std.proofs.Common.{◌≡◌, ◌∙◌, ℕ, ◌+◌, ◌<◌, ◌�
 use Rattle.passkey_cbor.specs.CursorState.{raised}
 use Rattle.passkey_cbor.specs.declared.count.Count.{Count}
 use Rattle.passkey_cbor.specs.Bytes.{IsBytes}
-use Rattle.passkey_cbor.proofs.LeadingItems.{front_given, given_front}
+use Rattle.passkey_cbor.proofs.items.LeadingItems.{front_given, given_front}
 use Rattle.passkey_cose.specs.declared.error.CoseError.{CoseError}
 use Rattle.passkey_cose.specs.declared.error.CoseError.TheVariants as cose
 use Rattle.passkey_core.specs.DataAnswers.{Returns}
 use Rattle.passkey_core.specs.DataCounts.{Counts, CountsData, CountsEach, ExceptOutOfMemory, UnlessOutOfMemory}
 use Rattle.passkey_core.specs.DataFlags.{attested_flag, extensions_flag, has_flag}
-use Rattle.passkey_core.specs.DataNodes.{front_heads, front_nodes, count_behind, count_where, count_key, count_data, one}
+use Rattle.passkey_core.specs.DataNodes.{front_heads, front_nodes, count_after, count_where, count_key, count_data, one}
 use Rattle.passkey_core.specs.DataParts.{AttestedParts, DataParts}
 use Rattle.passkey_core.specs.DataRead.{attested_at, where_at}
 use Rattle.passkey_core.specs.DataReading.{Begun, ◌>>=◌, fixed_at, ids_at, ReadsAttested, ReadsWhere}
@@ -19,12 +19,12 @@ use Rattle.passkey_core.proofs.DataShrinking.{fixed_shrink}
 
 -- ---- an error in the parts of fixed length
 
-nothing_behind : (each : List ℕ → ℕ) (bytes : List ℕ) (e : CoseError) → fixed_at bytes ≡ Err e
+nothing_after : (each : List ℕ → ℕ) (bytes : List ℕ) (e : CoseError) → fixed_at bytes ≡ Err e
     → count_data each bytes ≡ 0
 unfolding count_data
-nothing_behind each bytes e h =
-    ap (λ (begun : Begun DataParts). count_behind begun (λ fixed. count_where (has_flag attested_flag fixed.0.flags)
-    (count_key each) fixed.1 + count_behind (where_at (has_flag attested_flag fixed.0.flags) attested_at
+nothing_after each bytes e h =
+    ap (λ (begun : Begun DataParts). count_after begun (λ fixed. count_where (has_flag attested_flag fixed.0.flags)
+    (count_key each) fixed.1 + count_after (where_at (has_flag attested_flag fixed.0.flags) attested_at
     fixed.1) (λ attested. count_where (has_flag extensions_flag fixed.0.flags) each attested.1))) h
 
 pub totals_fixed : {A : Type 0} (bytes : List ℕ) (e : CoseError) (count : Count) → fixed_at bytes ≡ Err e
@@ -32,10 +32,10 @@ pub totals_fixed : {A : Type 0} (bytes : List ℕ) (e : CoseError) (count : Coun
 totals_fixed bytes e count h = record {
   heads = omega arith;
   nodes = omega arith;
-  least = λ some. absurd (omega (arith, nothing_behind one bytes e h, some));
+  least = λ some. absurd (omega (arith, nothing_after one bytes e h, some));
   all = except e (record {
-    heads = omega (arith, nothing_behind front_heads bytes e h);
-    nodes = omega (arith, nothing_behind front_nodes bytes e h);
+    heads = omega (arith, nothing_after front_heads bytes e h);
+    nodes = omega (arith, nothing_after front_nodes bytes e h);
   });
   heads_rise = omega arith;
   nodes_rise = omega arith;
@@ -44,33 +44,33 @@ totals_fixed bytes e count h = record {
 -- ---- an error in attested credential data
 
 -- what is counted after attested credential data
-abbrev behind_attested : (List ℕ → ℕ) → DataParts → Begun (Option AttestedParts) → ℕ
-behind_attested each fixed begun =
-    count_behind begun (λ attested. count_where (has_flag extensions_flag fixed.flags) each attested.1)
+abbrev after_attested : (List ℕ → ℕ) → DataParts → Begun (Option AttestedParts) → ℕ
+after_attested each fixed begun =
+    count_after begun (λ attested. count_where (has_flag extensions_flag fixed.flags) each attested.1)
 
 parts_of : (each : List ℕ → ℕ) (bytes : List ℕ) (fixed : DataParts) (rest : List ℕ) → Ok (fixed, rest)
     ≡ fixed_at bytes → count_data each bytes ≡ count_where (has_flag attested_flag fixed.flags) (count_key each)
-    rest + behind_attested each fixed (where_at (has_flag attested_flag fixed.flags) attested_at rest)
+    rest + after_attested each fixed (where_at (has_flag attested_flag fixed.flags) attested_at rest)
 unfolding count_data
 parts_of each bytes fixed rest h =
-    ap (λ (begun : Begun DataParts). count_behind begun (λ fixed. count_where (has_flag attested_flag fixed.0.flags)
-    (count_key each) fixed.1 + count_behind (where_at (has_flag attested_flag fixed.0.flags) attested_at
+    ap (λ (begun : Begun DataParts). count_after begun (λ fixed. count_where (has_flag attested_flag fixed.0.flags)
+    (count_key each) fixed.1 + count_after (where_at (has_flag attested_flag fixed.0.flags) attested_at
     fixed.1) (λ attested. count_where (has_flag extensions_flag fixed.0.flags) each attested.1))) (sym h)
 
 -- if a data item is decoded, the key is
 by_ids : (fixed : DataParts) (ids : Begun (List ℕ × List ℕ))
-    (next : (List ℕ × List ℕ) × List ℕ → Begun AttestedParts) → 0 < count_behind ids (λ p. one p.1)
-    + behind_attested one fixed (ids >>= next >>= λ p. Ok (Some p.0, p.1)) → 0 < count_behind ids (λ p. one p.1)
+    (next : (List ℕ × List ℕ) × List ℕ → Begun AttestedParts) → 0 < count_after ids (λ p. one p.1)
+    + after_attested one fixed (ids >>= next >>= λ p. Ok (Some p.0, p.1)) → 0 < count_after ids (λ p. one p.1)
 by_ids fixed (Ok p) next some = omega arith
 by_ids fixed (Err e) next some = some
 
 key_first : (fixed : DataParts) (rest : List ℕ)
-    → 0 < count_key one rest + behind_attested one fixed (where_at true attested_at rest) → 0 < count_key one rest
+    → 0 < count_key one rest + after_attested one fixed (where_at true attested_at rest) → 0 < count_key one rest
 unfolding count_key attested_at
 key_first fixed rest some = by_ids fixed (ids_at rest) _ some
 
 part_first : (fixed : DataParts) (rest : List ℕ) (is_there : Bool) → is_there ≡ true
-    → 0 < count_where is_there (count_key one) rest + behind_attested one fixed (where_at is_there attested_at rest)
+    → 0 < count_where is_there (count_key one) rest + after_attested one fixed (where_at is_there attested_at rest)
     → 0 < count_where is_there (count_key one) rest
 part_first fixed rest is_there there = rw there (key_first fixed rest)
 
@@ -100,7 +100,7 @@ all_attested memory seen bytes fixed rest e old new fits is_fixed reads h =
     let parts : (each : List ℕ → ℕ) → count_data each bytes ≡ count_where is_attested (count_key each) rest + 0 =
     λ each. parts_of each bytes fixed rest is_fixed
     ∙ ap (λ (begun : Begun (Option AttestedParts)). count_where is_attested (count_key each) rest
-    + behind_attested each fixed begun) given in
+    + after_attested each fixed begun) given in
     record {
       heads = omega (arith, p.heads, parts front_heads);
       nodes = omega (arith, p.nodes, parts front_nodes);
@@ -125,15 +125,15 @@ totals_attested memory seen bytes fixed rest e old new fits is_fixed there reads
 -- ---- then the extensions
 
 counts_of : (each : List ℕ → ℕ) (bytes : List ℕ) (fixed : DataParts) (rest : List ℕ)
-    (attested : Option AttestedParts) (behind : List ℕ) → Ok (fixed, rest) ≡ fixed_at bytes
-    → ReadsWhere (has_flag attested_flag fixed.flags) ReadsAttested rest (Ok (attested, behind))
+    (attested : Option AttestedParts) (following : List ℕ) → Ok (fixed, rest) ≡ fixed_at bytes
+    → ReadsWhere (has_flag attested_flag fixed.flags) ReadsAttested rest (Ok (attested, following))
     → count_data each bytes ≡ count_where (has_flag attested_flag fixed.flags) (count_key each) rest
-    + count_where (has_flag extensions_flag fixed.flags) each behind
-counts_of each bytes fixed rest attested behind is_fixed reads =
-    let given : where_at (has_flag attested_flag fixed.flags) attested_at rest ≡ Ok (attested, behind) =
-    attested_where_given front_given (has_flag attested_flag fixed.flags) rest (attested, behind) reads in
+    + count_where (has_flag extensions_flag fixed.flags) each following
+counts_of each bytes fixed rest attested following is_fixed reads =
+    let given : where_at (has_flag attested_flag fixed.flags) attested_at rest ≡ Ok (attested, following) =
+    attested_where_given front_given (has_flag attested_flag fixed.flags) rest (attested, following) reads in
     parts_of each bytes fixed rest is_fixed ∙ ap (λ (begun : Begun (Option AttestedParts)). count_where
-    (has_flag attested_flag fixed.flags) (count_key each) rest + behind_attested each fixed begun) given
+    (has_flag attested_flag fixed.flags) (count_key each) rest + after_attested each fixed begun) given
 
 -- at least one head over two steps
 least_of : (m n old mid new : ℕ) → (0 < m → raised old 1 ≤ mid) → (0 < n → raised mid 1 ≤ new) → old ≤ mid
@@ -141,37 +141,37 @@ least_of : (m n old mid new : ℕ) → (0 < m → raised old 1 ≤ mid) → (0 <
 least_of m n old mid new first second up rise some = grind arith
 
 -- both steps, and what they count
-record Steps {A B : Type 0} (bytes : List ℕ) (fixed : DataParts) (rest : List ℕ) (x : A) (behind : Bor (List ℕ))
+record Steps {A B : Type 0} (bytes : List ℕ) (fixed : DataParts) (rest : List ℕ) (x : A) (following : Bor (List ℕ))
     (old mid new : Count) (last : Result (B × Bor (List ℕ)) CoseError) : Type 0 where
   first : Counts (λ each. count_where (has_flag attested_flag fixed.flags) (count_key each) rest) rest old mid
-      (Ok (x, behind))
+      (Ok (x, following))
   second :
-      Counts (λ each. count_where (has_flag extensions_flag fixed.flags) each behind.now) behind.now mid new last
+      Counts (λ each. count_where (has_flag extensions_flag fixed.flags) each following.now) following.now mid new last
   both : (each : List ℕ → ℕ) → count_data each bytes ≡ count_where (has_flag attested_flag fixed.flags)
-      (count_key each) rest + count_where (has_flag extensions_flag fixed.flags) each behind.now
+      (count_key each) rest + count_where (has_flag extensions_flag fixed.flags) each following.now
   shorter : length rest ≤ length bytes
 
 steps : {A B : Type 0} (bytes : List ℕ) (fixed : DataParts) (rest : List ℕ) (attested : Option AttestedParts)
-    (x : A) (behind : Bor (List ℕ)) (old mid new : Count) (last : Result (B × Bor (List ℕ)) CoseError)
+    (x : A) (following : Bor (List ℕ)) (old mid new : Count) (last : Result (B × Bor (List ℕ)) CoseError)
     → Ok (fixed, rest) ≡ fixed_at bytes
-    → ReadsWhere (has_flag attested_flag fixed.flags) ReadsAttested rest (Ok (attested, behind.now))
+    → ReadsWhere (has_flag attested_flag fixed.flags) ReadsAttested rest (Ok (attested, following.now))
     → Counts (λ each. count_where (has_flag attested_flag fixed.flags) (count_key each) rest) rest old mid
-    (Ok (x, behind))
-    → Counts (λ each. count_where (has_flag extensions_flag fixed.flags) each behind.now) behind.now mid new last
-    → Steps bytes fixed rest x behind old mid new last
-steps bytes fixed rest attested x behind old mid new last is_fixed reads first second = record {
+    (Ok (x, following))
+    → Counts (λ each. count_where (has_flag extensions_flag fixed.flags) each following.now) following.now mid new last
+    → Steps bytes fixed rest x following old mid new last
+steps bytes fixed rest attested x following old mid new last is_fixed reads first second = record {
   first = first;
   second = second;
-  both = λ each. counts_of each bytes fixed rest attested behind.now is_fixed reads;
+  both = λ each. counts_of each bytes fixed rest attested following.now is_fixed reads;
   shorter = fixed_shrink bytes fixed rest is_fixed;
 }
 
 all_counted : {A B : Type 0} (bytes : List ℕ) (fixed : DataParts) (rest : List ℕ) (x : A)
-    (behind : Bor (List ℕ)) (old mid new : Count) (last : Result (B × Bor (List ℕ)) CoseError)
-    → Steps bytes fixed rest x behind old mid new last
+    (following : Bor (List ℕ)) (old mid new : Count) (last : Result (B × Bor (List ℕ)) CoseError)
+    → Steps bytes fixed rest x following old mid new last
     → UnlessOutOfMemory last (CountsEach (λ each. count_data each bytes) old new)
-all_counted bytes fixed rest x behind old mid new last s =
-    unless_map last (CountsEach (λ each. count_where (has_flag extensions_flag fixed.flags) each behind.now) mid new)
+all_counted bytes fixed rest x following old mid new last s =
+    unless_map last (CountsEach (λ each. count_where (has_flag extensions_flag fixed.flags) each following.now) mid new)
     (CountsEach (λ each. count_data each bytes) old new) s.second.all (λ p. record {
       heads = omega (arith, s.first.all.heads, p.heads, s.both front_heads);
       nodes = omega (arith, s.first.all.nodes, p.nodes, s.both front_nodes);
@@ -179,22 +179,22 @@ all_counted bytes fixed rest x behind old mid new last s =
 
 -- what a result is known of that ends as decoding the extensions did
 pub totals : {A B C : Type 0} (bytes : List ℕ) (fixed : DataParts) (rest : List ℕ) (attested : Option AttestedParts)
-    (x : A) (behind : Bor (List ℕ)) (old mid new : Count) (last : Result (B × Bor (List ℕ)) CoseError)
+    (x : A) (following : Bor (List ℕ)) (old mid new : Count) (last : Result (B × Bor (List ℕ)) CoseError)
     (result : Result C CoseError) → ((P : Type 0) → UnlessOutOfMemory last P → UnlessOutOfMemory result P)
     → Ok (fixed, rest) ≡ fixed_at bytes
-    → ReadsWhere (has_flag attested_flag fixed.flags) ReadsAttested rest (Ok (attested, behind.now))
+    → ReadsWhere (has_flag attested_flag fixed.flags) ReadsAttested rest (Ok (attested, following.now))
     → Counts (λ each. count_where (has_flag attested_flag fixed.flags) (count_key each) rest) rest old mid
-    (Ok (x, behind))
-    → Counts (λ each. count_where (has_flag extensions_flag fixed.flags) each behind.now) behind.now mid new last
+    (Ok (x, following))
+    → Counts (λ each. count_where (has_flag extensions_flag fixed.flags) each following.now) following.now mid new last
     → CountsData bytes old new result
-totals bytes fixed rest attested x behind old mid new last result ends is_fixed reads first second =
-    let s = steps bytes fixed rest attested x behind old mid new last is_fixed reads first second in
+totals bytes fixed rest attested x following old mid new last result ends is_fixed reads first second =
+    let s = steps bytes fixed rest attested x following old mid new last is_fixed reads first second in
     record {
       heads = omega (arith, s.first.heads, s.second.heads, s.shorter);
       nodes = omega (arith, s.first.nodes, s.second.nodes, s.both front_nodes);
       least = λ some. least_of _ _ old.heads mid.heads new.heads s.first.least s.second.least s.first.heads_rise
           s.second.heads_rise (rw (sym (s.both one)) some);
-      all = ends _ (all_counted bytes fixed rest x behind old mid new last s);
+      all = ends _ (all_counted bytes fixed rest x following old mid new last s);
       heads_rise = omega (arith, s.first.heads_rise, s.second.heads_rise);
       nodes_rise = omega (arith, s.first.nodes_rise, s.second.nodes_rise);
     }

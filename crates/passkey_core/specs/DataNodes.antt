@@ -25,9 +25,9 @@ abbrev pub front_heads : List ℕ → ℕ
 front_heads bytes = given_heads bytes (leading_item_at bytes)
 
 -- what follows a part is counted only if the part has no error
-abbrev pub count_behind : {X : Type 0} → Begun X → (X × List ℕ → ℕ) → ℕ
-count_behind (Ok p) next = next p
-count_behind (Err e) next = 0
+abbrev pub count_after : {X : Type 0} → Begun X → (X × List ℕ → ℕ) → ℕ
+count_after (Ok p) next = next p
+count_after (Err e) next = 0
 
 -- a part is counted only if its flag is set
 abbrev pub count_where : Bool → (List ℕ → ℕ) → List ℕ → ℕ
@@ -36,14 +36,14 @@ count_where false part bytes = 0
 
 -- what `each` counts at the key
 unfoldable pub count_key : (List ℕ → ℕ) → List ℕ → ℕ
-count_key each bytes = count_behind (ids_at bytes) (λ ids. each ids.1)
+count_key each bytes = count_after (ids_at bytes) (λ ids. each ids.1)
 
 -- what `each` counts at the key and at the extensions, as far as decoding gets
 unfoldable pub count_data : (List ℕ → ℕ) → List ℕ → ℕ
 count_data each bytes =
-    count_behind (fixed_at bytes) (λ fixed.
+    count_after (fixed_at bytes) (λ fixed.
     count_where (has_flag attested_flag fixed.0.flags) (count_key each) fixed.1
-    + count_behind (where_at (has_flag attested_flag fixed.0.flags) attested_at fixed.1) (λ attested.
+    + count_after (where_at (has_flag attested_flag fixed.0.flags) attested_at fixed.1) (λ attested.
     count_where (has_flag extensions_flag fixed.0.flags) each attested.1))
 
 -- one for each place where a data item is decoded

@@ -66,16 +66,16 @@ abbrev pub ReadsItem : {X : Type 0} → (Item → Result X CoseError) → List �
 ReadsItem read bytes begun = IsReadBy read bytes begun ⊎ (HasNoLeadingItem bytes × (begun ≡ Err DecodeFailed))
 
 -- the result after a first part: that of `next`, or the first part's error
-abbrev pub Behind : {X Y : Type 0} → (X → List ℕ → Result Y CoseError → Type 0) → Begun X → Result Y CoseError
+abbrev pub After : {X Y : Type 0} → (X → List ℕ → Result Y CoseError → Type 0) → Begun X → Result Y CoseError
     → Type 0
-Behind next (Ok p) answer = next p.0 p.1 answer
-Behind next (Err e) answer = answer ≡ Err e
+After next (Ok p) answer = next p.0 p.1 answer
+After next (Err e) answer = answer ≡ Err e
 
 pub record ReadsThen {X Y : Type 0} (first : Begun X → Type 0) (next : X → List ℕ → Result Y CoseError → Type 0)
     (answer : Result Y CoseError) : Type 0 where
   pub begun : Begun X
   pub begins : first begun
-  pub goes_on : Behind next begun answer
+  pub goes_on : After next begun answer
 
 -- attested credential data at the beginning of the bytes
 abbrev pub ReadsAttested : List ℕ → Begun AttestedParts → Type 0
@@ -99,8 +99,8 @@ abbrev pub ReadsDataThen : {Y : Type 0} → (DataParts → List ℕ → Result Y
     → Result Y CoseError → Type 0
 ReadsDataThen finish bytes =
     ReadsThen (λ fixed. fixed ≡ fixed_at bytes) (λ fixed rest.
-    ReadsThen (ReadsWhere (has_flag attested_flag fixed.flags) ReadsAttested rest) (λ attested behind.
-    ReadsThen (ReadsWhere (has_flag extensions_flag fixed.flags) (ReadsItem read_map) behind)
+    ReadsThen (ReadsWhere (has_flag attested_flag fixed.flags) ReadsAttested rest) (λ attested following.
+    ReadsThen (ReadsWhere (has_flag extensions_flag fixed.flags) (ReadsItem read_map) following)
     (λ extensions last answer.
     answer ≡ finish (record fixed { attested = attested; extensions = extensions }) last)))
 
@@ -125,9 +125,9 @@ AttestedGrows bytes = IsOkAnd (ids_at bytes) (λ ids. HasGrowingLeadingItem ids.
 -- takes memory
 pub record ExtensionsGrow (before : Begun (Option AttestedParts) → Type 0) : Type 0 where
   pub attested : Option AttestedParts
-  pub behind : List ℕ
-  pub begins : before (Ok (attested, behind))
-  pub grows : HasGrowingLeadingItem behind
+  pub following : List ℕ
+  pub begins : before (Ok (attested, following))
+  pub grows : HasGrowingLeadingItem following
 
 -- one of the parts whose flags are set may run out of memory
 abbrev pub PartsGrow : DataParts → List ℕ → Type 0

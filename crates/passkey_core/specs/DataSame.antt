@@ -45,11 +45,11 @@ abbrev pub fixed_eq : DataParts → DataParts → Bool
 fixed_eq d e =
     (bytes_eq d.rp_id_hash e.rp_id_hash && nat_eq d.flags e.flags) && option_eq nat_eq d.counter e.counter
 
-abbrev pub behind_eq : DataParts → DataParts → Bool
-behind_eq d e = option_eq attested_eq d.attested e.attested && option_eq item_eq d.extensions e.extensions
+abbrev pub after_eq : DataParts → DataParts → Bool
+after_eq d e = option_eq attested_eq d.attested e.attested && option_eq item_eq d.extensions e.extensions
 
 abbrev pub data_eq : DataParts → DataParts → Bool
-data_eq d e = fixed_eq d e && behind_eq d e
+data_eq d e = fixed_eq d e && after_eq d e
 
 numbers_decide : DecidesAll nat_eq
 numbers_decide x y = Decides-eqb x y
@@ -65,17 +65,17 @@ extensions_decide = option_decides item_eq item_Decides
 
 data_same : (d e : DataParts) → data_eq d e ≡ true → d ≡ e
 data_same d e h =
-    let all = and_parts (fixed_eq d e) (behind_eq d e) h in
+    let all = and_parts (fixed_eq d e) (after_eq d e) h in
     let fixed = and_parts (bytes_eq d.rp_id_hash e.rp_id_hash && nat_eq d.flags e.flags)
     (option_eq nat_eq d.counter e.counter) all.0 in
     let front = and_parts (bytes_eq d.rp_id_hash e.rp_id_hash) (nat_eq d.flags e.flags) fixed.0 in
-    let behind = and_parts (option_eq attested_eq d.attested e.attested)
+    let following = and_parts (option_eq attested_eq d.attested e.attested)
     (option_eq item_eq d.extensions e.extensions) all.1 in
     let rp_id_hash = (bytes_eq-Decides d.rp_id_hash e.rp_id_hash).0 front.0 in
     let flags = (numbers_decide d.flags e.flags).0 front.1 in
     let counter = (counters_decide d.counter e.counter).0 fixed.1 in
-    let attested = (attested_decide d.attested e.attested).0 behind.0 in
-    let extensions = (extensions_decide d.extensions e.extensions).0 behind.1 in
+    let attested = (attested_decide d.attested e.attested).0 following.0 in
+    let extensions = (extensions_decide d.extensions e.extensions).0 following.1 in
     λ i. record {
       rp_id_hash = rp_id_hash i;
       flags = flags i;
@@ -90,10 +90,10 @@ data_own d =
     ((bytes_eq-Decides d.rp_id_hash d.rp_id_hash).1 refl) ((numbers_decide d.flags d.flags).1 refl) in
     let fixed = and_from (bytes_eq d.rp_id_hash d.rp_id_hash && nat_eq d.flags d.flags)
     (option_eq nat_eq d.counter d.counter) front ((counters_decide d.counter d.counter).1 refl) in
-    let behind =
+    let following =
     and_from (option_eq attested_eq d.attested d.attested) (option_eq item_eq d.extensions d.extensions)
     ((attested_decide d.attested d.attested).1 refl) ((extensions_decide d.extensions d.extensions).1 refl) in
-    and_from (fixed_eq d d) (behind_eq d d) fixed behind
+    and_from (fixed_eq d d) (after_eq d d) fixed following
 
 pub data_Decides : DecidesAll data_eq
 data_Decides d e = (data_same d e, λ h. subst (λ (f : DataParts). data_eq d f ≡ true) h (data_own d))

@@ -1,5 +1,6 @@
 //! Laws about authenticator data, each the contract of a function that does nothing.
-ghost use Rattle.passkey_core.specs.DataLaws.{ExactReadingIsReading, OneReading, GivenIsRead, ReadIsGiven, GivenIsCoherent, ReadIsCoherent, WrittenDataAreReadBack, WrittenDataAreReadExactly};
+ghost use Rattle.passkey_core.specs.DataLaws.{ExactReadingIsReading, OneReading, GivenIsRead, ReadIsGiven, GivenIsCoherent};
+ghost use Rattle.passkey_core.specs.DataLaws.{ReadIsCoherent, WrittenDataAreReadBack, WrittenDataAreReadExactly};
 
 /// Bytes decode to only one result: certain data, or a certain error (WebAuthn Level 3, section
 /// 6.1).

@@ -5,7 +5,7 @@ use Rattle.passkey_cbor.specs.Encoding.{pairs_len}
 use Rattle.passkey_cbor.specs.Item.{Item, pairs_of}
 use Rattle.passkey_cbor.specs.Written.{shortest_head, written, pairs_written}
 use Rattle.passkey_cbor.specs.Writable.{IsWritable, ArePairsWritable}
-use Rattle.passkey_cbor.proofs.Items.{pairs_len-pairs_of}
+use Rattle.passkey_cbor.proofs.items.Items.{pairs_len-pairs_of}
 use Rattle.passkey_cose.specs.KeyLabels.{Members}
 use Rattle.passkey_cose.specs.KeyParts.{KeyParts, key_members, key_item}
 use Rattle.passkey_cose.specs.KeyWritten.{Appended}

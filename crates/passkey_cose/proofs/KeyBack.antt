@@ -70,8 +70,8 @@ each_op_back earlier (o ∷ os) e =
     let name = none_either (name_fault (op_item o)) _ parts.0 in
     let here : name_in key_operation_named (op_item o) ≡ Some (normal_named key_operation_named o) =
     name_back key_operation_number key_operation_named key_operation_named-number o name.0 in
-    let behind = each_op_back (earlier ++ op_item o ∷ []) os parts.1 in
-    λ i. cons_option (here i) (behind i)
+    let following = each_op_back (earlier ++ op_item o ∷ []) os parts.1 in
+    λ i. cons_option (here i) (following i)
 
 ops_back : (os : List (Named KeyOperation)) → AreGoodOps (ops_item os)
     → unwrap_or (option_map ops_in (ops_item os)) [] ≡ map (normal_named key_operation_named) os

@@ -42,7 +42,7 @@ some_ops_depth name (x ∷ xs) some =
     let all = ops_depth (map name (x ∷ xs)) in
     omega arith
 
--- only the operations and the further parameters have levels
+-- only the operations and the other parameters have levels
 only_two : (x : Item) (ids algs ops ivs ps : Members) → depth x ≡ 0 → pairs_depth (pairs_of ids) ≡ 0
     → pairs_depth (pairs_of algs) ≡ 0 → pairs_depth (pairs_of ivs) ≡ 0
     → pairs_depth (pairs_of (member 1 (Some x) ++ ids ++ algs ++ ops ++ ivs ++ ps))

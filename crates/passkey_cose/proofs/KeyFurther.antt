@@ -1,4 +1,4 @@
--- If no member is bad, the labels of the further parameters are distinct.
+-- If no member is bad, the labels of the other parameters are distinct.
 use Rattle.std.specs.Option.{option_or}
 use Rattle.std.proofs.Common.{◌≡◌, Bool, true, false, not, ◌∷◌, ◌++◌, [], Option, Some, None, if◌then◌else◌, refl}
 use Rattle.std.proofs.lemmas.Bool.{or_parts, or_from}
@@ -17,7 +17,7 @@ pub none_either : {T : Type 0} (x y : Option T) → option_or x y ≡ None → (
 none_either None y e = (refl, e)
 none_either (Some x) y e = cc
 
--- a label that no member has is not among the further parameters
+-- a label that no member has is not among the other parameters
 has_label-further : (ms : Members) (label : Item) → has_label ms label ≡ false
     → has_label (further ms) label ≡ false
 has_label-further [] label e = refl

@@ -58,7 +58,7 @@ further_of k separate =
     (option_map byte_string k.key_id) (option_map (named_item algorithm_number) k.alg) (ops_item k.key_ops)
     (option_map byte_string k.base_iv) k.params ∙ further_own k.params separate
 
--- if the further parameters are unchanged and the common ones are good, no member is bad
+-- if the other parameters are unchanged and the common ones are good, no member is bad
 good_again : (k l : KeyParts) → IsKey k → l.params ≡ k.params → AreGood l → first_fault [] (key_members l) ≡ None
 unfolding members_of
 good_again k l valid params good =
@@ -146,7 +146,7 @@ good_ops k os valid names e =
     good_again k (record k { key_ops = os }) valid refl
     (record { kty = g.kty; key_id = g.key_id; alg = g.alg; key_ops = ops_good os names e; base_iv = g.base_iv })
 
--- ---- one more further parameter
+-- ---- one more parameter
 
 first_push : (earlier ms : Members) (m : Item × Item) → first_fault earlier ms ≡ None
     → member_fault (earlier ++ ms) m ≡ None → first_fault earlier (ms ++ m ∷ []) ≡ None

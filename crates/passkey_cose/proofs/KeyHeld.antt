@@ -4,7 +4,7 @@ use Rattle.std.specs.Option.{option_and_then}
 use Rattle.std.proofs.Common.{◌≡◌, ◌<◌, ℕ, ℤ, pos, arith, length, IsSome, Bool, true, false, ◌∷◌, ◌++◌, List, [], map, Option, Some, None, option_map, unwrap_or, Ok, if◌then◌else◌, refl, ap, subst, ◌∙◌}
 use Rattle.passkey_cbor.specs.Item.{Item, number, byte_string, text_string, array, no_items, item, elements, items_of}
 use Rattle.passkey_cbor.specs.SameItems.{item_Decides}
-use Rattle.passkey_cbor.proofs.Items.{items_of-elements}
+use Rattle.passkey_cbor.proofs.items.Items.{items_of-elements}
 use Rattle.passkey_iana.specs.Iana.{key_operation_named, key_operation_number}
 use Rattle.passkey_iana.specs.IanaLaws.{key_operation_named-number}
 use Rattle.passkey_iana.specs.Signed64.{is_signed_64}

@@ -5,7 +5,7 @@ use Rattle.passkey_cbor.specs.Item.{Item, array, map, items_of, pairs_of}
 use Rattle.passkey_iana.specs.Iana.{key_operation_named}
 use Rattle.passkey_cose.specs.KeyFaults.{first_op_fault, ops_fault, first_fault}
 use Rattle.passkey_cose.specs.KeyLabels.{Members}
-use Rattle.passkey_cbor.proofs.Items.{elements-items_of, members-pairs_of}
+use Rattle.passkey_cbor.proofs.items.Items.{elements-items_of, members-pairs_of}
 use Rattle.passkey_cose.specs.KeyReading.{name_in, ops_in, key_or_fault, read_key}
 
 pub ops_fault-array : (xs : List Item) → 0 < length xs → ops_fault (array (items_of xs)) ≡ first_op_fault [] xs

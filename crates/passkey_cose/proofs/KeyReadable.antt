@@ -23,7 +23,7 @@ use Rattle.passkey_cose.specs.KeyLaws.{ReadIsReadable}
 use Rattle.passkey_cose.proofs.KeyHeld.{key_type_is}
 use Rattle.passkey_cose.proofs.KeyRound.{sorted_of, type_of, written_members}
 use Rattle.passkey_cose.proofs.KeyDepth.{members_depth-append}
-use Rattle.passkey_cbor.proofs.Items.{pairs_of-members}
+use Rattle.passkey_cbor.proofs.items.Items.{pairs_of-members}
 
 -- ---- a key that was read has no more levels than its data item
 

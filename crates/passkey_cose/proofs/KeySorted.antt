@@ -14,7 +14,7 @@ use Rattle.passkey_cose.proofs.KeyFurther.{none_either}
 use Rattle.passkey_cose.proofs.KeyHeld.{GoodUnder}
 use Rattle.passkey_cose.proofs.KeySeparate.{unequal_flip, has_label-push, separate_parts}
 
--- the common members before the further ones
+-- the common members before the others
 abbrev pub sorted : Option Item → Option Item → Option Item → Option Item → Option Item → Members → Members
 sorted a b c d e ms = member 1 a ++ (member 2 b ++ (member 3 c ++ (member 4 d ++ (member 5 e ++ further ms))))
 

@@ -21,8 +21,8 @@ same_left ms ns i left =
 
 pub same_after : (ms ns os : List (Value × Value)) (i : ℕ) → drop (suc i) ms ≡ drop (suc i) ns
     → drop i ns ≡ drop i os → drop (i + 1) ms ≡ drop (i + 1) os
-same_after ms ns os i behind left =
-    (let here : drop (i + 1) ms ≡ drop (i + 1) ns = rw (add-one i) behind in here) ∙ same_left ns os i left
+same_after ms ns os i following left =
+    (let here : drop (i + 1) ms ≡ drop (i + 1) ns = rw (add-one i) following in here) ∙ same_left ns os i left
 
 first_left : (ms : List (Value × Value)) (i : ℕ) (m : Value × Value) → get_or (drop i ms) 0 m ≡ get_or ms i m
 first_left ms i m = rw (get_or-drop, add-zero)
@@ -79,7 +79,7 @@ some_further : (ps ms ns all : Members) (m : Item × Item) → is_common m.0 ≡
 some_further ps ms ns all m other at done =
     subst (λ (os : Members). 0 < length os) (take_further ps ms ns all m other at done) (some ps (further ns) m)
 
--- the further parameters that the pairs began with, if one of them is still there
+-- the other parameters that the pairs began with, if one of them is still there
 pub one_left : (ps all : Members) (ms now slice : List (Value × Value)) (i end : ℕ) (m : Value × Value) (b : Bool)
     → i < end → end ≤ length ms → slice ≡ now → m ≡ get_or slice i m → drop i now ≡ drop i ms
     → b ≡ is_common (item_of (get_or slice i m).0) → b ≡ false → ps ++ further (map pair_of (drop i ms)) ≡ all

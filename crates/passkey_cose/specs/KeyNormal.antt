@@ -20,7 +20,7 @@ normal_key k = record k {
   key_ops = map (normal_named key_operation_named) k.key_ops;
 }
 
--- No member that is written is bad; the further parameters have distinct labels, none of them a common
+-- No member that is written is bad; the other parameters have distinct labels, none of them a common
 -- parameter's.
 pub record IsKey (k : KeyParts) : Type 0 where
   pub good : first_fault [] (key_members k) ≡ None

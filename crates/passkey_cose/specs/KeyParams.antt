@@ -1,4 +1,4 @@
--- A key's further parameters, as members.
+-- A key's other parameters, as members.
 use Rattle.std.specs.Prelude.{List, [], map, Option, option_map, unwrap_or}
 use Rattle.std.specs.declared.alloc.Global.{Global}
 use Rattle.std.specs.declared.vec.Vec.{Vec}

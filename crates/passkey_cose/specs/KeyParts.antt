@@ -60,7 +60,7 @@ abbrev pub key_item : KeyParts → Item
 key_item k = item.map (pairs_of (key_members k))
 
 -- the keys that take memory to hold: those with a text as type or algorithm, a key id, operations, a Base IV or
--- further parameters
+-- other parameters
 abbrev pub KeyGrows : KeyParts → Type 0
 KeyGrows k =
     IsText k.kty

@@ -1,4 +1,4 @@
--- What a public key of each type consists of, among its further parameters.
+-- What a public key of each type consists of, among its parameters that aren't common.
 use Rattle.std.specs.Prelude.{ℤ, ℕ, negsuc, Bool, if◌then◌else◌, List, Option, Some, None, option_map}
 use Rattle.std.specs.Option.{option_and_then}
 use Rattle.passkey_cbor.specs.Item.{Item, number}
@@ -11,7 +11,7 @@ use Rattle.passkey_cose.specs.KeyParts.{KeyParts}
 use Rattle.passkey_cose.specs.KeyReading.{bytes_in}
 use Rattle.passkey_cose.specs.Registered.{assigned, named_eq}
 
--- the further parameter with this label, as a number of 64 signed bits or as a byte string
+-- the other parameter with this label, as a number of 64 signed bits or as a byte string
 abbrev pub signed_64_in : Item → Option ℤ
 signed_64_in (number z) = if is_signed_64 z then Some z else None
 signed_64_in _ = None

@@ -51,7 +51,7 @@ impl PartialEq for CoseKey {
 
     ghost laws = { on_per key_parts (partial_equiv_from_equiv parts_eq-equivalence) };
 
-    /// Whether both have the same parts, with operations and further parameters in the same order.
+    /// Whether both have the same parts, with operations and other parameters in the same order.
     fn eq(&self, other: &CoseKey) -> bool
         ensures value { result ≡ parts_eq (key_parts self.now) (key_parts other.now) }
         ensures same { IsTrue result ↔ (key_parts self.now ≡ key_parts other.now) }

@@ -11,8 +11,8 @@ use crate::label::Label;
 use crate::registered::Registered;
 use passkey_cbor::Value;
 
-/// A COSE key (RFC 9052, section 7): its type, the common parameters of section 7.1, and further
-/// parameters. No label occurs twice, and no further parameter has the label of a common one, 1 to
+/// A COSE key (RFC 9052, section 7): its type, the common parameters of section 7.1, and other
+/// parameters. No label occurs twice, and no other parameter has the label of a common one, 1 to
 /// 5. A key is never encoded with a member that decoding rejects.
 #[derive(Debug, Drop)]
 pub struct CoseKey {

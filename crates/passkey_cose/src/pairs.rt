@@ -11,9 +11,9 @@ use std::mem::replace;
 /// The pairs that a key is decoded from.
 #[derive(Drop)]
 pub(super) enum Pairs<'a> {
-    /// The labels and values of further parameters are copied into the key.
+    /// The labels and values of other parameters are copied into the key.
     Lent(&'a [(Value, Value)]),
-    /// The labels and values of further parameters are moved into the key.
+    /// The labels and values of other parameters are moved into the key.
     Owned(Vec<(Value, Value)>),
 }
 

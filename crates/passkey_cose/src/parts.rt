@@ -61,7 +61,7 @@ impl CoseKey {
         }
     }
 
-    /// The further parameters, in their order. Their labels are distinct, and none is 1 to 5.
+    /// The other parameters, in their order. Their labels are distinct, and none is 1 to 5.
     pub fn params(&self) -> &[(Label, Value)]
         ensures value { params_of result.now ≡ (key_parts self.now).params }
         ensures separate { are_separate (key_parts self.now).params ≡ true }
@@ -72,7 +72,7 @@ impl CoseKey {
         }
     }
 
-    /// The value of the further parameter with this label; `None` if the key has none, and for the
+    /// The value of the other parameter with this label; `None` if the key has none, and for the
     /// labels of the common parameters, 1 to 5.
     pub fn param(&self, label: &Label) -> Option<&Value>
         ensures { option_map (λ v. item_of v.now) result

@@ -236,7 +236,7 @@ impl CoseKey {
 
     /// Decodes a key from a data item (RFC 9052, section 7), which it takes. The key, the errors
     /// and when memory may run out are those of `CoseKey::from_value`. But the labels and values of
-    /// further parameters are moved into the key rather than copied; the common parts are copied.
+    /// other parameters are moved into the key rather than copied; the common parts are copied.
     /// What isn't moved is dropped, and all of the data item if there is an error.
     pub fn from_owned_value(alloc: Global, value: Value) -> Result<CoseKey, CoseError>
         ensures { ReadsPart KeyGrows key_parts (read_key (item_of value)) result }

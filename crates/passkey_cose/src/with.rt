@@ -61,11 +61,11 @@ fn has_repeats(ops: &[Registered<KeyOperation>]) -> bool
     ensures { result ≡ has_repeat (map op_item (map named_of ops.now)) }
 {
     let mut rest = ops;
-    while let Some((op, behind)) = rest.split_first() {
-        if is_written_among(op, behind) {
+    while let Some((op, following)) = rest.split_first() {
+        if is_written_among(op, following) {
             return true;
         }
-        rest = behind;
+        rest = following;
     }
     false
 }
@@ -164,7 +164,7 @@ impl CoseKey {
         Ok(self)
     }
 
-    /// Returns the key with this further parameter after the others (RFC 9052, section 7).
+    /// Returns the key with this parameter after its others (RFC 9052, section 7).
     /// `DuplicateMapKey` if the label is 1 to 5 (section 7.1) or the key has it already; otherwise
     /// `OutOfMemory` if an allocation fails.
     pub fn with_param(

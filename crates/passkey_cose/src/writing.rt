@@ -182,7 +182,7 @@ fn append_params(encoder: &mut Encoder, params: &[(Label, Value)]) -> Result<(),
 
 impl CoseKey {
     /// Returns the key as a CBOR map: type, key identifier, algorithm, operations and Base IV under
-    /// 1 to 5, each if present, then the further parameters in their order (RFC 9052, section 7).
+    /// 1 to 5, each if present, then the other parameters in their order (RFC 9052, section 7).
     /// `OutOfMemory` if an allocation fails.
     pub fn to_value(&self, alloc: Global) -> Result<Value, OutOfMemory>
         ensures { IfOk result (λ v. item_of v ≡ key_item (key_parts self.now)) }

@@ -38,11 +38,11 @@ some_of : (o : Option Tested) → option_and_then (reached []) o ≡ o
 some_of (Some t) = refl
 some_of None = refl
 
-behind_part : (ks : List ℕ) (n : ℕ) (t : Tested)
+after_part : (ks : List ℕ) (n : ℕ) (t : Tested)
     → ((u : Tested) → reached ks u ≡ Some t → reached (ks ++ n ∷ []) u ≡ part_of n t.shape) → (o : Option Tested)
     → option_and_then (reached ks) o ≡ Some t → option_and_then (reached (ks ++ n ∷ [])) o ≡ part_of n t.shape
-behind_part ks n t rest (Some u) h = rest u h
-behind_part ks n t rest None h = absurd cc
+after_part ks n t rest (Some u) h = rest u h
+after_part ks n t rest None h = absurd cc
 
 pub reached_further : (ns : List ℕ) (n : ℕ) (root t : Tested) → reached ns root ≡ Some t
     → reached (ns ++ n ∷ []) root ≡ part_of n t.shape
@@ -50,7 +50,7 @@ reached_further [] n root t e =
     let same : root ≡ t = some_same e in
     some_of (part_of n root.shape) ∙ ap (λ (x : Tested). part_of n x.shape) same
 reached_further (k ∷ ks) n root t e =
-    behind_part ks n t (λ u. reached_further ks n u t) (part_of k root.shape) e
+    after_part ks n t (λ u. reached_further ks n u t) (part_of k root.shape) e
 
 -- looking at a part
 pub look_accepts : (way : List ℕ) (root t : Tested) (i : Item) (r : Result Look OutOfMemory) (l : Look)

@@ -23,18 +23,18 @@ some_item : (o : Option Item) → option_and_then (item_along []) o ≡ o
 some_item (Some i) = refl
 some_item None = refl
 
-behind_step : (ss : List Step) (s : Step) (i : Item)
+after_step : (ss : List Step) (s : Step) (i : Item)
     → ((x : Item) → item_along ss x ≡ Some i → item_along (ss ++ s ∷ []) x ≡ part_at s i) → (o : Option Item)
     → option_and_then (item_along ss) o ≡ Some i → option_and_then (item_along (ss ++ s ∷ [])) o ≡ part_at s i
-behind_step ss s i rest (Some x) h = rest x h
-behind_step ss s i rest None h = absurd cc
+after_step ss s i rest (Some x) h = rest x h
+after_step ss s i rest None h = absurd cc
 
 along_further : (path : List Step) (s : Step) (whole i : Item) → item_along path whole ≡ Some i
     → item_along (path ++ s ∷ []) whole ≡ part_at s i
 along_further [] s whole i e =
     let same : whole ≡ i = some_same e in some_item (part_at s whole) ∙ ap (part_at s) same
 along_further (k ∷ ks) s whole i e =
-    behind_step ks s i (λ x. along_further ks s x i) (part_at k whole) e
+    after_step ks s i (λ x. along_further ks s x i) (part_at k whole) e
 
 -- ---- the parts of an item
 

@@ -2,7 +2,7 @@
 use Rattle.std.proofs.Common.{◌≡◌, ◌∙◌, ℕ, zero, suc, ◌+◌, ◌==◌, ◌≤◌, ◌&&◌, arith, add-one, append_assoc, append-nil, Bool, true, false, if◌then◌else◌, List, [], ◌∷◌, ◌++◌, length, length-append, map, drop, Option, Some, None, slice_get, option_map, refl, sym, ap, subst, Bor}
 use Rattle.std.proofs.lemmas.List.{map-append}
 use Rattle.std.specs.Prelude.{IfOk, IfSome}
-use Rattle.passkey_cbor.proofs.Items.{elements-items_of, members-pairs_of}
+use Rattle.passkey_cbor.proofs.items.Items.{elements-items_of, members-pairs_of}
 use Rattle.passkey_cbor.specs.CursorState.{CursorState, MovesForward}
 use Rattle.passkey_cbor.specs.EncodedAt.{Lies, IsEncodedAt, Opens}
 use Rattle.passkey_cbor.specs.Found.{FindsHead}
@@ -235,20 +235,20 @@ pub head_opens : (whole i : Item) (path : List Step) (bytes : List ℕ) (a b : C
     → a.bytes ≡ bytes → Stands whole path i bytes a.place → FindsHead a b found
     → ((x : Item) (to : ℕ) → IsEncodedAt x a.bytes a.place to → Opens x to b found) → MovesForward a b
     → IsOpened whole path i bytes b.place
-head_opens whole i path bytes a b None same s finds opens went =
+head_opens whole i path bytes a b None same s finds opens moves =
     absurd (opens i s.to (subst (λ (bs : List ℕ). IsEncodedAt i bs a.place s.to) (sym same) s.there))
-head_opens whole i path bytes a b (Some h) same s finds opens went =
+head_opens whole i path bytes a b (Some h) same s finds opens moves =
     let there = subst (λ (bs : List ℕ). IsEncodedAt i bs a.place s.to) (sym same) s.there in
     let o = opened h i s.to b (opens i s.to there) in
-    let now : b.bytes ≡ bytes = went.same ∙ same in
-    let within : b.place ≤ length a.bytes = subst (λ (bs : List ℕ). b.place ≤ length bs) went.same went.within in
+    let now : b.bytes ≡ bytes = moves.same ∙ same in
+    let within : b.place ≤ length a.bytes = subst (λ (bs : List ℕ). b.place ≤ length bs) moves.same moves.within in
     record {
       at = a.place;
       head = h;
       headed = subst (λ (bs : List ℕ). Lies (IsEncodingOfHead h) bs a.place b.place) same
-          (headed h a b finds went.forward within);
+          (headed h a b finds moves.forward within);
       end = o.0;
-      lie = subst (λ (bs : List ℕ). ItemsLie (parts_of i) bs b.place o.0) now o.1;
+      extents = subst (λ (bs : List ℕ). ItemsLie (parts_of i) bs b.place o.0) now o.1;
       leads = s.leads;
     }
 

@@ -1,8 +1,8 @@
 -- The parts of arrays and maps, as they are encoded.
 use Rattle.std.proofs.Common.{◌≡◌, ◌∙◌, ℕ, zero, suc, ◌+◌, ◌<◌, arith, List, [], ◌∷◌, ◌++◌, length, Option, Some, None, option_map, slice_get, refl, sym, ap, subst, length-append, append_assoc}
-use Rattle.passkey_cbor.proofs.EncodedFrom.{lies_size}
-use Rattle.passkey_cbor.proofs.Items.{elements-items_of, members-pairs_of}
-use Rattle.passkey_cbor.proofs.More.{split}
+use Rattle.passkey_cbor.proofs.items.EncodedFrom.{lies_size}
+use Rattle.passkey_cbor.proofs.items.Items.{elements-items_of, members-pairs_of}
+use Rattle.passkey_cbor.proofs.items.More.{split}
 use Rattle.passkey_cbor.specs.EncodedAt.{Lies, IsEncodedAt}
 use Rattle.passkey_cbor.specs.Heads.{break}
 use Rattle.passkey_cbor.specs.Inside.{Within, PairWithin, Left, Inside}

@@ -1,6 +1,6 @@
 -- Following the steps of a path at a cursor.
 use Rattle.std.proofs.Common.{◌≡◌, ◌∙◌, ℕ, ◌+◌, ◌<◌, ◌≤◌, arith, Bool, true, false, List, [], ◌∷◌, ◌++◌, length, drop, map, get_or, Option, Some, None, slice_get, refl, sym, ap, subst, zero-add}
-use Rattle.passkey_cbor.proofs.EncodedFrom.{front_stands}
+use Rattle.passkey_cbor.proofs.items.EncodedFrom.{front_stands}
 use Rattle.std.proofs.lemmas.Option.{slice_get_within, slice_get-get_or, get_or_from_slice_get}
 use Rattle.passkey_kinds.proofs.Steps.{mapped_at}
 use Rattle.passkey_explain.specs.declared.blame.Step.{Step as CodeStep}

@@ -61,7 +61,7 @@ pub record IsLeftOut (root : Tested) (whole : Item) (d : LeftOut) : Type 0 where
 pub record AreDropped {P : Type 0} (t : Fields P) (i : Item) (bytes : List ℕ) (ds : List DroppedItem) : Type 0 where
   pub list : map left_out ds ≡ dropped (shape_of t) [] i
   pub left : All (IsLeftOut (tested (nested t)) i) (map left_out ds)
-  pub lie : All (LiesIn i bytes) ds
+  pub extents : All (LiesIn i bytes) ds
 
 -- The bytes don't begin with a data item; or these are the items that are left out of the one that begins them.
 abbrev pub ListsDropped : {P : Type 0} → Fields P → List ℕ → Option (Vec DroppedItem) → Type 0
@@ -101,6 +101,6 @@ pub record IsOpened (whole : Item) (path : List Step) (i : Item) (bytes : List �
   pub head : Head
   pub headed : Lies (IsEncodingOfHead head) bytes at first
   pub end : ℕ
-  pub lie : ItemsLie (parts_of i) bytes first end
+  pub extents : ItemsLie (parts_of i) bytes first end
   pub leads : (rest : List Step) (from end : ℕ) → LiesAlong rest i bytes at from end
       → LiesAlong (path ++ rest) whole bytes 0 from end

@@ -2,7 +2,8 @@
 ghost use Rattle.std.specs.Prelude.{Some, false, flat_map, map};
 ghost use Rattle.std.specs.Fmt.{WritesOnOk};
 ghost use Rattle.passkey_explain.specs.Blame.{blame_of, step_of};
-ghost use Rattle.passkey_explain.specs.Texts.{blame_text, dropped_text, explanation_text, extent_text, path_before, path_text, path_within, reason_text, refused_text, step_text};
+ghost use Rattle.passkey_explain.specs.Texts.{blame_text, dropped_text, explanation_text, extent_text, path_before, path_text};
+ghost use Rattle.passkey_explain.specs.Texts.{path_within, reason_text, refused_text, step_text};
 
 use crate::{Blame, DroppedItem, Explanation, Extent, Reason, RefusedItem, Step};
 use passkey_kinds::Fault;

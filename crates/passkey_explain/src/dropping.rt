@@ -41,7 +41,7 @@ enum Keys {
 }
 
 /// Returns the path with one more step.
-fn behind(alloc: Global, path: &[Step], step: Step) -> Result<Vec<Step>, OutOfMemory>
+fn following(alloc: Global, path: &[Step], step: Step) -> Result<Vec<Step>, OutOfMemory>
     ensures { IfOk result (λ v. v.items ≡ path.now ++ step ∷ []) }
 {
     let mut longer = Vec::from_slice(alloc, path)?;
@@ -70,7 +70,7 @@ fn step_to(keys: &Keys, index: usize, key: &Value) -> Option<(Step, u8)>
 fn pass(cursor: &mut Cursor<'_>) -> Extent
     ensures passes { (i : Item) (to : ℕ) → IsEncodedAt i cursor.old.bytes cursor.old.place to
         → (result.offset ≡ cursor.old.place) × (result.offset + result.len ≡ to) }
-    ensures went { GoesOn cursor.old cursor.new }
+    ensures moves { GoesOn cursor.old cursor.new }
 {
     let offset = cursor.place();
     cursor.skip();
@@ -93,10 +93,10 @@ fn put_one<M: FromCbor>(
     ensures lists { (t : Tested) → reached way.now (tested M.typed) ≡ Some t → IfOk result (λ _. Adds
         (record { path = map step_of path.now; blame = blamed t.shape (item_of value.now) } ∷ [])
         dropped.old.items dropped.new.items) }
-    ensures lie { (whole : Item) (bytes : List ℕ) → cursor.old.bytes ≡ bytes
+    ensures extents { (whole : Item) (bytes : List ℕ) → cursor.old.bytes ≡ bytes
         → Stands whole (map step_of path.now) (item_of value.now) bytes cursor.old.place
         → All (LiesIn whole bytes) dropped.old.items → IfOk result (λ _. All (LiesIn whole bytes) dropped.new.items) }
-    ensures went { GoesOn cursor.old cursor.new }
+    ensures moves { GoesOn cursor.old cursor.new }
 {
     let blame = explain_at::<M>(alloc, way, value)?;
     let path = Vec::from_slice(alloc, path)?;
@@ -124,14 +124,15 @@ fn put_elements<M: FromCbor>(
     ensures lists { (t : Tested) → reached way.now (tested M.typed) ≡ Some t → IfOk result (λ _. Adds
         (dropped_elements (spec.dropped t.shape) (map step_of path.now) 0 (map item_of elements.now))
         dropped.old.items dropped.new.items) }
-    ensures lie { (whole i : Item) (bytes : List ℕ) → cursor.old.bytes ≡ bytes → parts_of i ≡ map item_of elements.now
+    ensures extents { (whole i : Item) (bytes : List ℕ) → cursor.old.bytes ≡ bytes
+        → parts_of i ≡ map item_of elements.now
         → IsOpened whole (map step_of path.now) i bytes cursor.old.place
         → All (LiesIn whole bytes) dropped.old.items → IfOk result (λ _. All (LiesIn whole bytes) dropped.new.items) }
-    ensures went { GoesOn cursor.old cursor.new }
+    ensures moves { GoesOn cursor.old cursor.new }
 {
     for (index, element) in elements.iter().enumerate() {
         let place = cursor.place();
-        let inner = behind(alloc, path, Step::Element(index))?;
+        let inner = following(alloc, path, Step::Element(index))?;
         put_dropped::<M>(alloc, way, &inner, element, cursor, dropped)?;
         cursor.go_back(place);
         cursor.skip();
@@ -154,10 +155,10 @@ fn put_list<M: FromCbor>(
     ensures lists { (t : Tested) → reached (way.now ++ 0 ∷ []) (tested M.typed) ≡ Some t → IfOk result (λ _. Adds
         (dropped_list (spec.dropped t.shape) (map step_of path.now) (item_of value.now))
         dropped.old.items dropped.new.items) }
-    ensures lie { (whole : Item) (bytes : List ℕ) → cursor.old.bytes ≡ bytes
+    ensures extents { (whole : Item) (bytes : List ℕ) → cursor.old.bytes ≡ bytes
         → Stands whole (map step_of path.now) (item_of value.now) bytes cursor.old.place
         → All (LiesIn whole bytes) dropped.old.items → IfOk result (λ _. All (LiesIn whole bytes) dropped.new.items) }
-    ensures went { GoesOn cursor.old cursor.new }
+    ensures moves { GoesOn cursor.old cursor.new }
 {
     match value {
         Value::Array(elements) => {
@@ -186,15 +187,15 @@ fn put_value<M: FromCbor>(
         → IfOk result (λ _. Adds
         (dropped_value of (map step_of path.now) (option_map numbered_step step) (item_of value.now))
         dropped.old.items dropped.new.items) }
-    ensures lie { (whole : Item) (bytes : List ℕ) → cursor.old.bytes ≡ bytes → IfSome (option_map numbered_step step)
+    ensures extents { (whole : Item) (bytes : List ℕ) → cursor.old.bytes ≡ bytes → IfSome (option_map numbered_step step)
         (λ s. Stands whole (map step_of path.now ++ s.0 ∷ []) (item_of value.now) bytes cursor.old.place)
         → All (LiesIn whole bytes) dropped.old.items → IfOk result (λ _. All (LiesIn whole bytes) dropped.new.items) }
-    ensures went { GoesOn cursor.old cursor.new }
+    ensures moves { GoesOn cursor.old cursor.new }
 {
     match step {
         Some((step, number)) => {
             let inner = further(alloc, way, number)?;
-            let longer = behind(alloc, path, step)?;
+            let longer = following(alloc, path, step)?;
             put_dropped::<M>(alloc, &inner, &longer, value, cursor, dropped)
         }
         None => Ok(()),
@@ -218,10 +219,11 @@ fn put_pairs<M: FromCbor>(
         → IfOk result (λ _. Adds
         (dropped_pairs (steps_by keys.now) of (map step_of path.now) 0 (map pair_of pairs.now))
         dropped.old.items dropped.new.items) }
-    ensures lie { (whole i : Item) (bytes : List ℕ) → cursor.old.bytes ≡ bytes → parts_of i ≡ turns (map pair_of pairs.now)
+    ensures extents { (whole i : Item) (bytes : List ℕ) → cursor.old.bytes ≡ bytes
+        → parts_of i ≡ turns (map pair_of pairs.now)
         → IsOpened whole (map step_of path.now) i bytes cursor.old.place
         → All (LiesIn whole bytes) dropped.old.items → IfOk result (λ _. All (LiesIn whole bytes) dropped.new.items) }
-    ensures went { GoesOn cursor.old cursor.new }
+    ensures moves { GoesOn cursor.old cursor.new }
 {
     for (index, (key, value)) in pairs.iter().enumerate() {
         cursor.skip();
@@ -251,10 +253,10 @@ fn put_map<M: FromCbor>(
         → IfOk result (λ _. Adds
         (dropped_map (steps_by keys.now) of (map step_of path.now) (item_of value.now))
         dropped.old.items dropped.new.items) }
-    ensures lie { (whole : Item) (bytes : List ℕ) → cursor.old.bytes ≡ bytes
+    ensures extents { (whole : Item) (bytes : List ℕ) → cursor.old.bytes ≡ bytes
         → Stands whole (map step_of path.now) (item_of value.now) bytes cursor.old.place
         → All (LiesIn whole bytes) dropped.old.items → IfOk result (λ _. All (LiesIn whole bytes) dropped.new.items) }
-    ensures went { GoesOn cursor.old cursor.new }
+    ensures moves { GoesOn cursor.old cursor.new }
 {
     match value {
         Value::Map(pairs) => {
@@ -278,10 +280,10 @@ fn put_dropped<M: FromCbor>(
     requires { (t : Tested) × (reached way.now (tested M.typed) ≡ Some t) }
     ensures lists { (t : Tested) → reached way.now (tested M.typed) ≡ Some t → IfOk result (λ _. Adds
         (spec.dropped t.shape (map step_of path.now) (item_of value.now)) dropped.old.items dropped.new.items) }
-    ensures lie { (whole : Item) (bytes : List ℕ) → cursor.old.bytes ≡ bytes
+    ensures extents { (whole : Item) (bytes : List ℕ) → cursor.old.bytes ≡ bytes
         → Stands whole (map step_of path.now) (item_of value.now) bytes cursor.old.place
         → All (LiesIn whole bytes) dropped.old.items → IfOk result (λ _. All (LiesIn whole bytes) dropped.new.items) }
-    ensures went { GoesOn cursor.old cursor.new }
+    ensures moves { GoesOn cursor.old cursor.new }
 {
     let look = M::look(alloc, way, value)?;
     if !look.is_kept {

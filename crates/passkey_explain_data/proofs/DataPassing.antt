@@ -63,10 +63,10 @@ map_read rest i len leads e = (i, reads_item read_map rest i len i leads e)
 
 -- ---- attested credential data
 
-pub attested_read : (whole rest behind after : List ℕ) → ids_in whole rest ≡ Ok behind
-    → ReadsTo (ReadsItem read_key behind) after → ReadsTo (ReadsAttested rest) after
-attested_read whole rest behind after e k =
-    let p = ids_passed whole rest behind e in
+pub attested_read : (whole rest following after : List ℕ) → ids_in whole rest ≡ Ok following
+    → ReadsTo (ReadsItem read_key following) after → ReadsTo (ReadsAttested rest) after
+attested_read whole rest following after e k =
+    let p = ids_passed whole rest following e in
     let ids = p.0 in
     let here : ReadsItem read_key ids.1 (Ok (k.0, after)) =
     subst (λ (bs : List ℕ). ReadsItem read_key bs (Ok (k.0, after))) (sym p.1.1) k.1 in (
@@ -78,14 +78,14 @@ attested_read whole rest behind after e k =
       },
     )
 
-pub attested_refused : (whole rest behind : List ℕ) (r : DataRefusal) → ids_in whole rest ≡ Ok behind
-    → BlamesKey whole behind r → BlamesAttested whole rest r
-attested_refused whole rest behind r e b =
-    let p = ids_passed whole rest behind e in
+pub attested_refused : (whole rest following : List ℕ) (r : DataRefusal) → ids_in whole rest ≡ Ok following
+    → BlamesKey whole following r → BlamesAttested whole rest r
+attested_refused whole rest following r e b =
+    let p = ids_passed whole rest following e in
     let ids = p.0 in
-    let read : Ok (ids.0, behind) ≡ ids_at rest =
+    let read : Ok (ids.0, following) ≡ ids_at rest =
     ap (λ (bs : List ℕ). (let b : Begun (List ℕ × List ℕ) = Ok (ids.0, bs) in b)) (sym p.1.1) ∙ sym p.1.0 in
-    inr (ids.0, behind, (read, b))
+    inr (ids.0, following, (read, b))
 
 -- ---- parts with a flag
 
@@ -133,14 +133,14 @@ module _ (bytes : List ℕ) (flags : ℕ) (rest : List ℕ) (passed : fixed_in b
         ),
       )
 
-  module _ (behind : List ℕ) (attested : ReadsTo (ReadsWhere (has_flag attested_flag flags) ReadsAttested rest) behind) where
+  module _ (following : List ℕ) (attested : ReadsTo (ReadsWhere (has_flag attested_flag flags) ReadsAttested rest) following) where
     attested_with : (n : ℕ) → flags ≡ n
-        → ReadsTo (ReadsWhere (has_flag attested_flag n) ReadsAttested rest) behind
+        → ReadsTo (ReadsWhere (has_flag attested_flag n) ReadsAttested rest) following
     attested_with n e =
-        subst (λ (n : ℕ). ReadsTo (ReadsWhere (has_flag attested_flag n) ReadsAttested rest) behind) e attested
+        subst (λ (n : ℕ). ReadsTo (ReadsWhere (has_flag attested_flag n) ReadsAttested rest) following) e attested
 
     pub extensions_blamed : (r : DataRefusal)
-        → BlamesWhere (has_flag extensions_flag flags) (BlamesExtensions bytes behind) r → BlamesData bytes r
+        → BlamesWhere (has_flag extensions_flag flags) (BlamesExtensions bytes following) r → BlamesData bytes r
     extensions_blamed r b =
         let f = is_fixed bytes flags rest passed in
         let a = attested_with f.fixed.flags f.same in
@@ -151,22 +151,22 @@ module _ (bytes : List ℕ) (flags : ℕ) (rest : List ℕ) (passed : fixed_in b
             f.begins,
             inr (
               a.0,
-              behind,
+              following,
               (
                 a.1,
                 inl (subst (λ (n : ℕ). BlamesWhere (has_flag
-                    extensions_flag n) (BlamesExtensions bytes behind) r) f.same b),
+                    extensions_flag n) (BlamesExtensions bytes following) r) f.same b),
               ),
             ),
           ),
         )
 
     module _ (last : List ℕ)
-        (extensions : ReadsTo (ReadsWhere (has_flag extensions_flag flags) (ReadsItem read_map) behind) last) where
+        (extensions : ReadsTo (ReadsWhere (has_flag extensions_flag flags) (ReadsItem read_map) following) last) where
       extensions_with : (n : ℕ) → flags ≡ n
-          → ReadsTo (ReadsWhere (has_flag extensions_flag n) (ReadsItem read_map) behind) last
+          → ReadsTo (ReadsWhere (has_flag extensions_flag n) (ReadsItem read_map) following) last
       extensions_with n e =
-          subst (λ (n : ℕ). ReadsTo (ReadsWhere (has_flag extensions_flag n) (ReadsItem read_map) behind) last) e
+          subst (λ (n : ℕ). ReadsTo (ReadsWhere (has_flag extensions_flag n) (ReadsItem read_map) following) last) e
           extensions
 
       pub trailing_blamed : (r : DataRefusal) → BlamesTrailing bytes last r → BlamesData bytes r
@@ -174,22 +174,22 @@ module _ (bytes : List ℕ) (flags : ℕ) (rest : List ℕ) (passed : fixed_in b
           let f = is_fixed bytes flags rest passed in
           let a = attested_with f.fixed.flags f.same in
           let x = extensions_with f.fixed.flags f.same in
-          inr (f.fixed, rest, (f.begins, inr (a.0, behind, (a.1, inr (x.0, last, (x.1, b))))))
+          inr (f.fixed, rest, (f.begins, inr (a.0, following, (a.1, inr (x.0, last, (x.1, b))))))
 
       pub data_read : last ≡ [] → (d : DataParts) × ReadsDataExactly bytes (Ok d)
       data_read none =
           let f = is_fixed bytes flags rest passed in
           let a = attested_with f.fixed.flags f.same in
           let x = extensions_with f.fixed.flags f.same in
-          let whole : ReadsTo (ReadsWhere (has_flag extensions_flag f.fixed.flags) (ReadsItem read_map) behind) [] =
+          let whole : ReadsTo (ReadsWhere (has_flag extensions_flag f.fixed.flags) (ReadsItem read_map) following) [] =
           subst (λ (bs : List ℕ). ReadsTo (ReadsWhere (has_flag extensions_flag f.fixed.flags) (ReadsItem read_map)
-          behind) bs) none x in (
+          following) bs) none x in (
             record f.fixed { attested = a.0; extensions = whole.0 },
             record {
               begun = Ok (f.fixed, rest);
               begins = f.begins;
               goes_on = record {
-                begun = Ok (a.0, behind);
+                begun = Ok (a.0, following);
                 begins = a.1;
                 goes_on = record { begun = Ok (whole.0, []); begins = whole.1; goes_on = refl };
               };

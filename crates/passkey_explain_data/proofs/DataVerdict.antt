@@ -174,42 +174,42 @@ trailing_fault d whole (x ∷ xs) r b = ap Err (ap (λ (q : DataRefusal). q.faul
 
 -- what follows the parts of fixed length, and the attested credential data
 abbrev EndsAs : DataParts → Option AttestedParts → List ℕ → Result DataParts CoseError → Type 0
-EndsAs fixed attested behind =
-    ReadsThen (ReadsWhere (has_flag extensions_flag fixed.flags) (ReadsItem read_map) behind)
+EndsAs fixed attested following =
+    ReadsThen (ReadsWhere (has_flag extensions_flag fixed.flags) (ReadsItem read_map) following)
     (λ extensions last answer. answer ≡ whole_only (record fixed { attested = attested; extensions = extensions }) last)
 
 abbrev BlamesEnd : List ℕ → DataParts → List ℕ → DataRefusal → Type 0
-BlamesEnd bytes fixed behind =
-    BlamesThen (ReadsWhere (has_flag extensions_flag fixed.flags) (ReadsItem read_map) behind)
-    (BlamesWhere (has_flag extensions_flag fixed.flags) (BlamesExtensions bytes behind)) (λ (extensions : Option Item) last.
+BlamesEnd bytes fixed following =
+    BlamesThen (ReadsWhere (has_flag extensions_flag fixed.flags) (ReadsItem read_map) following)
+    (BlamesWhere (has_flag extensions_flag fixed.flags) (BlamesExtensions bytes following)) (λ (extensions : Option Item) last.
     BlamesTrailing bytes last)
 
-end_fault : (bytes : List ℕ) (fixed : DataParts) (attested : Option AttestedParts) (behind : List ℕ) (r : DataRefusal)
-    → BlamesEnd bytes fixed behind r → EndsAs fixed attested behind (Err r.fault)
-end_fault bytes fixed attested behind r (inl b) = record {
+end_fault : (bytes : List ℕ) (fixed : DataParts) (attested : Option AttestedParts) (following : List ℕ) (r : DataRefusal)
+    → BlamesEnd bytes fixed following r → EndsAs fixed attested following (Err r.fault)
+end_fault bytes fixed attested following r (inl b) = record {
   begun = Err r.fault;
-  begins = where_fault (has_flag extensions_flag fixed.flags) (ReadsItem read_map) behind (BlamesExtensions bytes behind) r
-      (extensions_fault bytes behind r) b;
+  begins = where_fault (has_flag extensions_flag fixed.flags) (ReadsItem read_map) following (BlamesExtensions bytes following) r
+      (extensions_fault bytes following r) b;
   goes_on = refl;
 }
-end_fault bytes fixed attested behind r (inr b) = record {
+end_fault bytes fixed attested following r (inr b) = record {
   begun = Ok (b.0, b.1);
   begins = b.2.0;
   goes_on = trailing_fault (record fixed { attested = attested; extensions = b.0 }) bytes b.1 r b.2.1;
 }
 
-behind_fault : (bytes : List ℕ) (fixed : DataParts) (rest : List ℕ) (r : DataRefusal)
+after_fault : (bytes : List ℕ) (fixed : DataParts) (rest : List ℕ) (r : DataRefusal)
     → BlamesThen (ReadsWhere (has_flag attested_flag fixed.flags) ReadsAttested rest)
-    (BlamesWhere (has_flag attested_flag fixed.flags) (BlamesAttested bytes rest)) (λ (attested : Option AttestedParts) behind.
-    BlamesEnd bytes fixed behind) r
+    (BlamesWhere (has_flag attested_flag fixed.flags) (BlamesAttested bytes rest)) (λ (attested : Option AttestedParts) following.
+    BlamesEnd bytes fixed following) r
     → ReadsThen (ReadsWhere (has_flag attested_flag fixed.flags) ReadsAttested rest) (EndsAs fixed) (Err r.fault)
-behind_fault bytes fixed rest r (inl b) = record {
+after_fault bytes fixed rest r (inl b) = record {
   begun = Err r.fault;
   begins = where_fault (has_flag attested_flag fixed.flags) ReadsAttested rest (BlamesAttested bytes rest) r
       (attested_fault bytes rest r) b;
   goes_on = refl;
 }
-behind_fault bytes fixed rest r (inr b) = record {
+after_fault bytes fixed rest r (inr b) = record {
   begun = Ok (b.0, b.1);
   begins = b.2.0;
   goes_on = end_fault bytes fixed b.0 b.1 r b.2.1;
@@ -219,7 +219,7 @@ pub data_fault : (bytes : List ℕ) (r : DataRefusal) → BlamesData bytes r →
 data_fault bytes r (inl e) =
     record { begun = Err r.fault; begins = fixed_refused bytes r e; goes_on = refl }
 data_fault bytes r (inr b) =
-    record { begun = Ok (b.0, b.1); begins = b.2.0; goes_on = behind_fault bytes b.0 b.1 r b.2.1 }
+    record { begun = Ok (b.0, b.1); begins = b.2.0; goes_on = after_fault bytes b.0 b.1 r b.2.1 }
 
 -- ---- what is read
 

@@ -4,7 +4,7 @@ use Rattle.std.specs.Option.{option_or, option_and_then}
 use Rattle.std.specs.Result.{result_map_both}
 use Rattle.std.proofs.Common.{◌≡◌, ◌∙◌, ◌<◌, ◌+◌, ℕ, ℤ, [], ◌∷◌, ◌++◌, length, Bool, true, false, if◌then◌else◌, Option, Some, None, option_map, Result, Ok, Err, get_or, arith, refl, sym, ap, subst}
 use Rattle.std.proofs.lemmas.Option.{slice_get-get_or}
-use Rattle.passkey_cbor.proofs.Items.{members-pairs_of}
+use Rattle.passkey_cbor.proofs.items.Items.{members-pairs_of}
 use Rattle.passkey_cbor.specs.Item.{Item, number, byte_string, text_string, array, map, tagged, boolean, null, simple, float, Pairs, members, pairs_of}
 use Rattle.passkey_cbor.specs.Same.{item_eq}
 use Rattle.passkey_iana.specs.Iana.{key_type_named}

@@ -172,9 +172,9 @@ BlamesData bytes =
     BlamesThen (λ fixed. fixed ≡ fixed_at bytes) (λ r. fixed_in bytes ≡ Err r) (λ (fixed : DataParts) rest.
     BlamesThen (ReadsWhere (has_flag attested_flag fixed.flags) ReadsAttested rest)
     (BlamesWhere (has_flag attested_flag fixed.flags) (BlamesAttested bytes rest))
-    (λ (attested : Option AttestedParts) behind.
-    BlamesThen (ReadsWhere (has_flag extensions_flag fixed.flags) (ReadsItem read_map) behind)
-    (BlamesWhere (has_flag extensions_flag fixed.flags) (BlamesExtensions bytes behind))
+    (λ (attested : Option AttestedParts) following.
+    BlamesThen (ReadsWhere (has_flag extensions_flag fixed.flags) (ReadsItem read_map) following)
+    (BlamesWhere (has_flag extensions_flag fixed.flags) (BlamesExtensions bytes following))
     (λ (extensions : Option Item) last. BlamesTrailing bytes last)))
 
 -- Nothing is refused, and the bytes are data; or this is, and the error is that of the reading.

@@ -31,12 +31,12 @@ fn pass_all(alloc: Global, bytes: &[u8]) -> Result<(), Stop>
         Err(refusal) => return Err(Stop::Refused(refusal)),
     };
     let has_attested = bitflags::Flags::contains(&flags, Flags::AT);
-    let behind = match pass_attested_where(alloc, has_attested, bytes, rest) {
-        Ok(behind) => behind,
+    let following = match pass_attested_where(alloc, has_attested, bytes, rest) {
+        Ok(following) => following,
         Err(stop) => return Err(stop),
     };
     let has_extensions = bitflags::Flags::contains(&flags, Flags::ED);
-    let last = match pass_extensions_where(alloc, has_extensions, bytes, behind) {
+    let last = match pass_extensions_where(alloc, has_extensions, bytes, following) {
         Ok(last) => last,
         Err(stop) => return Err(stop),
     };

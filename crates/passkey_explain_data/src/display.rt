@@ -1,7 +1,9 @@
 //! Refusals as a person reads them.
 ghost use Rattle.std.specs.Fmt.{WritesOnOk};
 ghost use Rattle.std.specs.Prelude.{◌≡◌, Some, map, option_map};
-ghost use Rattle.passkey_explain_data.specs.Texts.{data_reason_text, data_refusal_text, has_parameter, key_refusal_text, label_fault_text, label_name, label_text, part_name, statement_blame_text, statement_explanation_text, statement_text, value_fault_text};
+ghost use Rattle.passkey_explain_data.specs.Texts.{data_reason_text, data_refusal_text, has_parameter, key_refusal_text};
+ghost use Rattle.passkey_explain_data.specs.Texts.{label_fault_text, label_name, label_text, part_name, statement_blame_text};
+ghost use Rattle.passkey_explain_data.specs.Texts.{statement_explanation_text, statement_text, value_fault_text};
 
 use crate::{
     DataPart, DataReason, DataRefusal, KeyBlame, KeyRefusal, StatementBlame, StatementExplanation,

@@ -10,7 +10,7 @@ use passkey_cbor::item_len;
 use passkey_core::Flags;
 
 /// Returns the bytes after the data item that begins them, if one does.
-fn behind_item(bytes: &[u8]) -> &[u8]
+fn after_item(bytes: &[u8]) -> &[u8]
     ensures { (x : Item) (len : ℕ) → IsLeadingItem bytes.now x len → result.now ≡ drop len bytes.now }
 {
     match item_len(bytes) {
@@ -20,31 +20,31 @@ fn behind_item(bytes: &[u8]) -> &[u8]
 }
 
 /// Returns the bytes after the attested credential data that begin the rest, if they do.
-fn behind_attested<'a>(whole: &[u8], rest: &'a [u8]) -> &'a [u8]
+fn after_attested<'a>(whole: &[u8], rest: &'a [u8]) -> &'a [u8]
     ensures { EndsAt (ReadsAttested rest.now) result.now }
 {
     match pass_ids(whole, rest) {
-        Ok(key) => behind_item(key),
+        Ok(key) => after_item(key),
         Err(_) => rest,
     }
 }
 
 /// The same, if they are to be there.
-fn behind_attested_where<'a>(is_there: bool, whole: &[u8], rest: &'a [u8]) -> &'a [u8]
+fn after_attested_where<'a>(is_there: bool, whole: &[u8], rest: &'a [u8]) -> &'a [u8]
     ensures { EndsAt (ReadsWhere is_there ReadsAttested rest.now) result.now }
 {
     if is_there {
-        behind_attested(whole, rest)
+        after_attested(whole, rest)
     } else {
         rest
     }
 }
 
 /// Returns the bytes after the extension outputs that begin the rest, if they are to be there.
-fn behind_extensions_where(is_there: bool, rest: &[u8]) -> &[u8]
+fn after_extensions_where(is_there: bool, rest: &[u8]) -> &[u8]
     ensures { EndsAt (ReadsWhere is_there (ReadsItem read_map) rest.now) result.now }
 {
-    if is_there { behind_item(rest) } else { rest }
+    if is_there { after_item(rest) } else { rest }
 }
 
 /// Returns how many bytes the authenticator data take that begin these, if `from_slice` of
@@ -57,8 +57,8 @@ pub fn data_len(bytes: &[u8]) -> usize
         Err(_) => return 0,
     };
     let has_attested = bitflags::Flags::contains(&flags, Flags::AT);
-    let behind = behind_attested_where(has_attested, bytes, rest);
+    let following = after_attested_where(has_attested, bytes, rest);
     let has_extensions = bitflags::Flags::contains(&flags, Flags::ED);
-    let last = behind_extensions_where(has_extensions, behind);
+    let last = after_extensions_where(has_extensions, following);
     offset_in(bytes, last)
 }

@@ -6,7 +6,9 @@ ghost use Rattle.passkey_cbor.specs.LeadingItem.{IsLeadingItem, HasNoLeadingItem
 ghost use Rattle.passkey_cbor.specs.View.{item_of};
 ghost use Rattle.passkey_core.specs.DataReading.{read_map, ReadsItem, ReadsAttested, ReadsWhere};
 ghost use Rattle.passkey_cose.specs.KeyReading.{read_key};
-ghost use Rattle.passkey_explain_data.specs.DataBlame.{offset_in, extent_in, cut_off, reserved, part_at, fixed_in, ids_in, IsNoItem, IsNoKey, BlamesKey, BlamesAttested, BlamesExtensions, BlamesWhere, Passes, ReadsTo};
+ghost use Rattle.passkey_explain_data.specs.DataBlame.{offset_in, extent_in, cut_off, reserved, part_at, fixed_in, ids_in};
+ghost use Rattle.passkey_explain_data.specs.DataBlame.{IsNoItem, IsNoKey, BlamesKey, BlamesAttested, BlamesExtensions};
+ghost use Rattle.passkey_explain_data.specs.DataBlame.{BlamesWhere, Passes, ReadsTo};
 ghost use Rattle.passkey_explain_data.specs.KeyBlame.{key_blame};
 ghost use Rattle.passkey_malformed.specs.Stops.{IsMalformed};
 
@@ -66,7 +68,7 @@ fn chunk_at<'a, const N: usize>(
     ensures { result_map_both (λ r. (r.0, r.1.now)) (λ e. e) result ≡ part_at whole.now part N rest.now }
 {
     match rest.split_first_chunk::<N>() {
-        Some((chunk, behind)) => Ok((*chunk, behind)),
+        Some((chunk, following)) => Ok((*chunk, following)),
         None => Err(cut_off(whole, part, rest)),
     }
 }
@@ -185,7 +187,7 @@ fn pass_attested<'a>(alloc: Global, whole: &[u8], rest: &'a [u8]) -> Result<&'a 
     ensures { Passes (λ after. ReadsTo (ReadsAttested rest.now) after.now) (BlamesAttested whole.now rest.now) result }
 {
     match pass_ids(whole, rest) {
-        Ok(behind) => pass_key(alloc, whole, behind),
+        Ok(following) => pass_key(alloc, whole, following),
         Err(refusal) => Err(Stop::Refused(refusal)),
     }
 }

@@ -7,7 +7,9 @@ ghost use Rattle.passkey_cbor.specs.LeadingItem.{IsLeadingItem};
 ghost use Rattle.passkey_explain.specs.Along.{IsLocated};
 ghost use Rattle.passkey_explain.specs.Blame.{item_along};
 ghost use Rattle.passkey_explain.specs.Blaming.{blamed};
-ghost use Rattle.passkey_explain_data.specs.StatementBlame.{ExplainsStatement, ExplainsStatementItem, IsFaultOf, blame_of_statement, compound_blame, in_item, none_blame, path_to, statement_blame};
+ghost use Rattle.passkey_explain_data.specs.StatementBlame.{ExplainsStatement, ExplainsStatementItem, IsFaultOf};
+ghost use Rattle.passkey_explain_data.specs.StatementBlame.{blame_of_statement, compound_blame, in_item, none_blame, path_to};
+ghost use Rattle.passkey_explain_data.specs.StatementBlame.{statement_blame};
 ghost use Rattle.passkey_kinds.specs.Words.{item_of};
 
 use passkey_attestation::{

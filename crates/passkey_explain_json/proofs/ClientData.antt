@@ -116,10 +116,10 @@ or_true : (b : Bool) → b || true ≡ true
 or_true true = refl
 or_true false = refl
 
-behind : (l : List ℕ) (d : Data) (ms : Members) → members_have_float (unknown ms) ≡ true → (f : Bool) → is_fixed l ≡ f
+following : (l : List ℕ) (d : Data) (ms : Members) → members_have_float (unknown ms) ≡ true → (f : Bool) → is_fixed l ≡ f
     → members_have_float (unknown (member l d ms)) ≡ true
-behind l d ms later true a = rw a later
-behind l d ms later false a = rw (a, later) (or_true (has_float d))
+following l d ms later true a = rw a later
+following l d ms later false a = rw (a, later) (or_true (has_float d))
 
 here : (l : List ℕ) (d : Data) (ms : Members) → is_fixed l ≡ false → has_float d ≡ true
     → members_have_float (unknown (member l d ms)) ≡ true
@@ -129,8 +129,8 @@ order_case : (name l : List ℕ) (x d : Data) (ms : Members) → is_fixed name �
     → (get_member name ms ≡ Some x → members_have_float (unknown ms) ≡ true) → (o : Ordering)
     → slice_cmp nat_cmp name l ≡ o → match_ordering o (get_member name ms) (Some d) (get_member name ms) ≡ Some x
     → members_have_float (unknown (member l d ms)) ≡ true
-order_case name l x d ms a b later Less c e = behind l d ms (later e) (is_fixed l) refl
-order_case name l x d ms a b later Greater c e = behind l d ms (later e) (is_fixed l) refl
+order_case name l x d ms a b later Less c e = following l d ms (later e) (is_fixed l) refl
+order_case name l x d ms a b later Greater c e = following l d ms (later e) (is_fixed l) refl
 order_case name l x d ms a b later Equal c e =
     let same : name ≡ l = exact_bytes name l c in
     let is : d ≡ x = cc in
@@ -147,7 +147,7 @@ listed_float : (name : List ℕ) (x : Data) → is_fixed name ≡ false → has_
 listed_float name x a b no_members h = absurd h
 listed_float name x a b (member l d ms) (inl h) =
     here l d ms (subst (λ (n : List ℕ). is_fixed n ≡ false) h.0 a) (sym (ap has_float h.1) ∙ b)
-listed_float name x a b (member l d ms) (inr h) = behind l d ms (listed_float name x a b ms h) (is_fixed l) refl
+listed_float name x a b (member l d ms) (inr h) = following l d ms (listed_float name x a b ms h) (is_fixed l) refl
 
 -- ---- what client data with these members is
 

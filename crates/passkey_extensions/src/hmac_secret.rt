@@ -1,7 +1,9 @@
 //! Inputs of the extension hmac-secret.
 ghost use Rattle.std.specs.Prelude.{◌≡◌, ◌<◌, ◌⊎◌, length, true, nat_le, IfOk, IfErr, OnErr, OnOk};
-ghost use Rattle.passkey_kinds.specs.Words.{places_of, depth, Grows, item_of, IsWritable, written, ReadsMessage, ReadsHere, GrowsMessage, MayGrowAt, Reads, table_of};
-ghost use Rattle.passkey_extensions.specs.HmacInput.{HmacInputParts, hmac_input_fields, read_hmac_input, hmac_input_parts, HmacInputFits, hmac_input_members, hmac_input_tree, is_hmac_input_coherent};
+ghost use Rattle.passkey_kinds.specs.Words.{places_of, depth, Grows, item_of, IsWritable, written, ReadsMessage, ReadsHere};
+ghost use Rattle.passkey_kinds.specs.Words.{GrowsMessage, MayGrowAt, Reads, table_of};
+ghost use Rattle.passkey_extensions.specs.HmacInput.{HmacInputParts, hmac_input_fields, read_hmac_input, hmac_input_parts};
+ghost use Rattle.passkey_extensions.specs.HmacInput.{HmacInputFits, hmac_input_members, hmac_input_tree, is_hmac_input_coherent};
 ghost use Rattle.passkey_kinds.specs.declared.fault.Fault.TheVariants.{OutOfMemory as NoRoom};
 ghost use Rattle.passkey_kinds.specs.declared.fault.WriteFault.TheVariants.{OutOfMemory as NoMemory};
 

@@ -2,7 +2,8 @@
 ghost use Rattle.std.specs.Prelude.{true, ◌≡◌, is_some, IfOk, OnErr};
 ghost use Rattle.std.specs.Option.{IsSomeAnd};
 ghost use Rattle.std.specs.FinMap as fin;
-ghost use Rattle.passkey_extensions.specs.Prf.{prf_inputs, prf_values, make_credential_prf, get_assertion_prf, webauthn_values, registration_prf, authentication_prf};
+ghost use Rattle.passkey_extensions.specs.Prf.{prf_inputs, prf_values, make_credential_prf, get_assertion_prf, webauthn_values};
+ghost use Rattle.passkey_extensions.specs.Prf.{registration_prf, authentication_prf};
 
 use passkey_bytes::{Bytes, Map};
 use passkey_kinds::{PlainRecord, Refusal, Row, Sink, Source, set};

@@ -6,7 +6,7 @@ use Rattle.passkey_catalogue.specs.declared.kind.Kind.TheVariants.{Bytes, Ctap}
 use Rattle.passkey_commands.specs.framing.Command.{command_of}
 use Rattle.passkey_commands.specs.declared.framing.command.Command.{Command}
 use Rattle.passkey_commands.specs.declared.framing.command.Command.TheVariants as command
-use Rattle.passkey_run.specs.declared.kind.BytesKind.TheVariants as bytes
+use Rattle.passkey_rewrite.specs.declared.kind.BytesKind.TheVariants as bytes
 use Rattle.passkey_inspect.specs.declared.frame.Frame.{Frame}
 use Rattle.passkey_inspect.specs.declared.frame.Frame.TheVariants as frame
 

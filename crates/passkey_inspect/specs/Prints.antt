@@ -8,12 +8,12 @@ use Rattle.passkey_cbor_text.specs.diagnose.Diagnosis.{diagnosis}
 use Rattle.passkey_cbor_text.specs.diagnose.BytesText.{bytes_diagnosis}
 use Rattle.passkey_cbor_text.specs.diagnose.Quoted.{visible_text}
 use Rattle.passkey_explain.specs.Described.{Described}
-use Rattle.passkey_report.specs.Json.{json_text}
+use Rattle.passkey_render.specs.Json.{json_text}
 use Rattle.passkey_inspect_input.specs.Input.{bytes_as, form_of}
 use Rattle.passkey_inspect_input.specs.declared.Form.{Form}
 use Rattle.passkey_inspect_input.specs.declared.Form.TheVariants.{Json}
 use Rattle.passkey_catalogue.specs.JsonTexts.{any_json_rewritten}
-use Rattle.passkey_run.specs.RewritesJson.{RewritesJson}
+use Rattle.passkey_rewrite.specs.RewritesJson.{RewritesJson}
 use Rattle.passkey_inspect.specs.Frame.{body_in, kind_in}
 use Rattle.passkey_inspect.specs.declared.options.Options.{Options}
 use Rattle.passkey_inspect.specs.declared.options.Output.{Output}

@@ -15,8 +15,8 @@ use passkey_explain::{
 use passkey_explain_data::{explain_data, explain_key, explain_statement};
 use passkey_kinds::Message;
 use passkey_memory::OutOfMemory;
-use passkey_report::{describe_opened, left_out_text};
-use passkey_run::Visitor;
+use passkey_render::{describe_opened, left_out_text};
+use passkey_rewrite::Visitor;
 use std::alloc::Global;
 
 /// What is in bytes that a kind accepts.

@@ -2,7 +2,7 @@
 
 use crate::options::Output;
 use passkey_memory::OutOfMemory;
-use passkey_run::RunFault;
+use passkey_rewrite::RunFault;
 use std::alloc::{AllocError, AllocFailed, Global};
 use std::fmt;
 

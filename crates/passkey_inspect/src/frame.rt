@@ -7,7 +7,7 @@ use crate::status_name::status_name;
 use passkey_catalogue::CtapKind;
 use passkey_commands::framing::{Command, request_of};
 use passkey_memory::OutOfMemory;
-use passkey_run::BytesKind;
+use passkey_rewrite::BytesKind;
 use std::alloc::Global;
 
 /// What stands before a message (CTAP 2.1, section 8).

@@ -1,6 +1,7 @@
 //! One run: reads bytes, and returns what is printed.
 ghost use Rattle.std.specs.Prelude.{◌≡◌, ◌++◌, ◌∷◌, [], IfOk, None, string_bytes};
-ghost use Rattle.passkey_inspect.specs.Prints.{Prints, PrintsAs, PrintsBytes, PrintsInput, PrintsSpelled, form_in, ShowsBytes, ShowsEncoding, ShowsItem, ShowsJson};
+ghost use Rattle.passkey_inspect.specs.Prints.{Prints, PrintsAs, PrintsBytes, PrintsInput, PrintsSpelled, form_in, ShowsBytes};
+ghost use Rattle.passkey_inspect.specs.Prints.{ShowsEncoding, ShowsItem, ShowsJson};
 
 use crate::examine::{Contents, Examined, examine};
 use crate::fault::InspectFault;
@@ -17,8 +18,8 @@ use passkey_cbor_text::dump::dump;
 use passkey_explain::{Description, Extent, FieldName};
 use passkey_inspect_input::{Form, bytes_as, form_of};
 use passkey_memory::OutOfMemory;
-use passkey_report::{json_of, page_of, refusal_page, report_of};
-use passkey_run::RunFault;
+use passkey_render::{json_of, page_of, refusal_page, report_of};
+use passkey_rewrite::RunFault;
 use std::alloc::Global;
 
 /// The kinds that accept bytes.

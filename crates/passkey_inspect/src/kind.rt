@@ -2,7 +2,7 @@
 
 use passkey_catalogue::CtapKind;
 pub use passkey_catalogue::Kind as InspectKind;
-use passkey_run::{BytesKind, JsonKind};
+use passkey_rewrite::{BytesKind, JsonKind};
 
 /// Any data item.
 pub const CBOR: InspectKind = InspectKind::Bytes(BytesKind::Cbor);

@@ -22,7 +22,7 @@ use fault::InspectFault;
 use kinds::all_kinds_text;
 use nearest::{no_file, no_kind};
 use options::{HELP, Options, VERSION, options_of};
-use passkey_run::{RunFault, read_all, read_words, write_all};
+use passkey_rewrite::{RunFault, read_all, read_words, write_all};
 use std::alloc::Global;
 use std::fs;
 use std::io::{ErrorKind, Read, Write};

@@ -3,7 +3,7 @@
 use passkey_cbor::Value;
 use passkey_explain::{Description, FieldName};
 use passkey_memory::OutOfMemory;
-use passkey_run::BytesKind;
+use passkey_rewrite::BytesKind;
 use passkey_webauthn::EnumNames;
 use std::alloc::Global;
 

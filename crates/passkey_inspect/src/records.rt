@@ -11,7 +11,7 @@ use passkey_bytes::{Bytes, BytesFault};
 use passkey_catalogue::{RefusedJson, dropped_json_as, explain_json_as, rewrite_json};
 use passkey_cbor_text::diagnose::escape_controls;
 use passkey_memory::OutOfMemory;
-use passkey_run::{BytesKind, JsonKind, RunFault, parse_json};
+use passkey_rewrite::{BytesKind, JsonKind, RunFault, parse_json};
 use serde_json::Value;
 use std::alloc::Global;
 

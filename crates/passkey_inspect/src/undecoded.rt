@@ -11,7 +11,7 @@ use passkey_explain_data::{
     StatementBlame, StatementExplanation, StatementRefusal, explain_statement,
 };
 use passkey_memory::OutOfMemory;
-use passkey_run::BytesKind;
+use passkey_rewrite::BytesKind;
 use passkey_tpm::{TpmRefusal, explain_cert_info, explain_pub_area};
 use passkey_webauthn::EnumNames;
 use std::alloc::Global;

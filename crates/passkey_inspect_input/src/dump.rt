@@ -28,7 +28,7 @@ fn begins_with(prefix: &[u8], input: &[u8]) -> bool
     let mut rest = input;
     while let Some((first, others)) = wanted.split_first() {
         match rest.split_first() {
-            Some((byte, behind)) if byte == first => rest = behind,
+            Some((byte, following)) if byte == first => rest = following,
             _ => return false,
         }
         wanted = others;

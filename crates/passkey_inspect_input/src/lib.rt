@@ -5,7 +5,8 @@
 mod dump;
 
 ghost use Rattle.std.specs.Prelude.{◌≡◌, IfOk, flat_map, option_map, string_bytes};
-ghost use Rattle.passkey_inspect_input.specs.Input.{is_space, is_separator, hex_text, digits_of, digit_bytes, hex_bytes, url_symbol, symbol_text, base64_bytes, begins_json, form_of, bytes_as};
+ghost use Rattle.passkey_inspect_input.specs.Input.{is_space, is_separator, hex_text, digits_of, digit_bytes, hex_bytes};
+ghost use Rattle.passkey_inspect_input.specs.Input.{url_symbol, symbol_text, base64_bytes, begins_json, form_of, bytes_as};
 
 use dump::{is_dump, spelled};
 use hex::FromHexError;

@@ -1,5 +1,6 @@
 //! Inputs and outputs of client extensions, decoded from JSON objects and encoded.
-ghost use Rattle.passkey_json.specs.Extensions.{client_inputs, client_outputs, credential_properties, no_inputs, no_outputs, no_prf_inputs, prf_inputs, where_any};
+ghost use Rattle.passkey_json.specs.Extensions.{client_inputs, client_outputs, credential_properties, no_inputs, no_outputs};
+ghost use Rattle.passkey_json.specs.Extensions.{no_prf_inputs, prf_inputs, where_any};
 ghost use Rattle.std.specs.FinMap as fin;
 ghost use Rattle.std.specs.Option.{IsSomeAnd};
 ghost use Rattle.std.specs.Prelude.{IfOk, OnErr, length, ◌<◌, ◌≡◌, ◌⊎◌};

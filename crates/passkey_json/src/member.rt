@@ -4,7 +4,8 @@ ghost use Rattle.passkey_json.specs.Along.{accepted_shape, tolerant_shape};
 ghost use Rattle.passkey_json.specs.Fault.{Gives};
 ghost use Rattle.passkey_json.specs.Held.{HasAnswered, IsPlaced, IsUnlessRefused, found};
 ghost use Rattle.passkey_json.specs.Kind.{accepted, is_array};
-ghost use Rattle.passkey_json.specs.Members.{MemberTakes, under, fault_of, decoded_or_fault, required, or_default, if_present, tolerated, required_tolerated, accepted_list};
+ghost use Rattle.passkey_json.specs.Members.{MemberTakes, under, fault_of, decoded_or_fault, required, or_default, if_present};
+ghost use Rattle.passkey_json.specs.Members.{tolerated, required_tolerated, accepted_list};
 ghost use Rattle.serde_json.specs.View.{view};
 
 use crate::blame::JsonBlame;

@@ -2,7 +2,10 @@
 ghost use Rattle.passkey_json.specs.Shape.{leaf};
 ghost use Rattle.passkey_json.specs.declared.wanted.WantedJson.TheVariants as want;
 ghost use Rattle.std.specs.Prelude.{Some};
-ghost use Rattle.passkey_json.specs.Requirements.{attachment_name, attachment_own, attachment_value, attachments, resident_key_name, resident_key_own, resident_key_value, resident_keys, user_verification_name, user_verification_own, user_verification_value, user_verifications};
+ghost use Rattle.passkey_json.specs.Requirements.{attachment_name, attachment_own, attachment_value, attachments};
+ghost use Rattle.passkey_json.specs.Requirements.{resident_key_name, resident_key_own, resident_key_value, resident_keys};
+ghost use Rattle.passkey_json.specs.Requirements.{user_verification_name, user_verification_own, user_verification_value};
+ghost use Rattle.passkey_json.specs.Requirements.{user_verifications};
 
 use crate::blame::JsonBlame;
 use crate::bytes_form::BytesForm;

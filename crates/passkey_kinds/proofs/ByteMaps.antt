@@ -154,9 +154,9 @@ encoded_long : (s : List ℕ) → length (written (byte_string s)) ≡ length (s
 encoded_long s = length-append (shortest_head 2 (length s)) s
 
 -- a common prefix doesn't matter
-behind_common : (t a b : List ℕ) → slice_cmp nat_cmp (t ++ a) (t ++ b) ≡ slice_cmp nat_cmp a b
-behind_common [] a b = refl
-behind_common (c ∷ t) a b = rw (sym (nat_cmp_is c c Equal refl)) (behind_common t a b)
+after_common : (t a b : List ℕ) → slice_cmp nat_cmp (t ++ a) (t ++ b) ≡ slice_cmp nat_cmp a b
+after_common [] a b = refl
+after_common (c ∷ t) a b = rw (sym (nat_cmp_is c c Equal refl)) (after_common t a b)
 
 types_tie : (a b : List ℕ)
     → nat_cmp (key_type (written (byte_string a))) (key_type (written (byte_string b))) ≡ Equal
@@ -168,20 +168,20 @@ order_is n m o h = grind (arith, nat_tests, inl, inr)
 byte_keys : (a b : List ℕ) → (length a < length b) ⊎ ((length a ≡ length b) × (slice_cmp nat_cmp a b ≡ Less))
     → IsBefore (written (byte_string a)) (written (byte_string b))
 byte_keys a b (inl less) = search (rules, encoded_long, head_rises, types_tie)
-byte_keys a b (inr tie) = search (rules, encoded_long, types_tie, behind_common)
+byte_keys a b (inr tie) = search (rules, encoded_long, types_tie, after_common)
 
 module _ {A : Type 0} (tree : A → Item) where
-  ascend_behind : (k : List ℕ) (es : List (List ℕ × A)) → T (below_all by_length k es) → T (is_sorted by_length es)
+  ascend_after : (k : List ℕ) (es : List (List ℕ × A)) → T (below_all by_length k es) → T (is_sorted by_length es)
       → AscendFrom (Some (written (byte_string k))) (pairs_of (map (entry_tree tree) es))
-  ascend_behind k [] below up = tt
-  ascend_behind k (e ∷ es) below up =
+  ascend_after k [] below up = tt
+  ascend_after k (e ∷ es) below up =
       let p = both _ _ below in
       let q = both _ _ up in
-      (byte_keys k e.0 (order_is _ _ _ (less_is _ p.0)), ascend_behind e.0 es q.0 q.1)
+      (byte_keys k e.0 (order_is _ _ _ (less_is _ p.0)), ascend_after e.0 es q.0 q.1)
 
   ascend : (es : List (List ℕ × A)) → T (is_sorted by_length es) → Ascend (pairs_of (map (entry_tree tree) es))
   ascend [] up = tt
-  ascend (e ∷ es) up = let q = both _ _ up in (tt, ascend_behind e.0 es q.0 q.1)
+  ascend (e ∷ es) up = let q = both _ _ up in (tt, ascend_after e.0 es q.0 q.1)
 
   -- the keys of an encoded map ascend
   pub entries_ascend : (m : ByteMap A) → Ascend (pairs_of (map (entry_tree tree) (short_first (fin.entries m))))

@@ -5,17 +5,17 @@ pub use Rattle.passkey_bytes.specs.Encoding.{text_bytes}
 pub use Rattle.passkey_bytes.specs.Map.{ByteMap, put_each}
 pub use Rattle.passkey_bytes.specs.SameMaps.{same_tests}
 pub use Rattle.passkey_bytes.specs.declared.bytes.BytesFault.{BytesFault}
-pub use Rattle.passkey_cbor.proofs.Binds.{some_is}
-pub use Rattle.passkey_cbor.proofs.EncodedFrom.{lies_size, only_one, front_long, front_stands}
-pub use Rattle.passkey_cbor.proofs.Raised.{raised-le}
-pub use Rattle.passkey_cbor.proofs.HeadAgain.{head_again}
-pub use Rattle.passkey_cbor.proofs.Items.{members-pairs_of, elements-items_of, follows_item, low_simple, pairs_len-pairs_of}
-pub use Rattle.passkey_cbor.proofs.Lists.{head_long, encoded_long, each_long}
-pub use Rattle.passkey_cbor.proofs.More.{split}
-pub use Rattle.passkey_cbor.proofs.Pieces.{lends_start, lends_on, lends_all}
-pub use Rattle.passkey_cbor.proofs.Strings.{AChunk, follows_chunk, string_again}
-pub use Rattle.passkey_cbor.proofs.Views.{item_of-Array, item_of-Map, item_of-Bytes}
-pub use Rattle.passkey_cbor.proofs.Writing.{WritesItems, writes_items-begin, writes_items-more_at}
+pub use Rattle.passkey_cbor.proofs.items.Binds.{some_is}
+pub use Rattle.passkey_cbor.proofs.items.EncodedFrom.{lies_size, only_one, front_long, front_stands}
+pub use Rattle.passkey_cbor.proofs.heads.Raised.{raised-le}
+pub use Rattle.passkey_cbor.proofs.heads.HeadAgain.{head_again}
+pub use Rattle.passkey_cbor.proofs.items.Items.{members-pairs_of, elements-items_of, follows_item, low_simple, pairs_len-pairs_of}
+pub use Rattle.passkey_cbor.proofs.items.Lists.{head_long, encoded_long, each_long}
+pub use Rattle.passkey_cbor.proofs.items.More.{split}
+pub use Rattle.passkey_cbor.proofs.strings.Pieces.{lends_start, lends_on, lends_all}
+pub use Rattle.passkey_cbor.proofs.strings.Strings.{AChunk, follows_chunk, string_again}
+pub use Rattle.passkey_cbor.proofs.building.Views.{item_of-Array, item_of-Map, item_of-Bytes}
+pub use Rattle.passkey_cbor.proofs.items.Writing.{WritesItems, writes_items-begin, writes_items-more_at}
 pub use Rattle.passkey_cbor.specs.Canonical.{ComesAfter, AscendFrom, Ascend, IsOrdered, AreOrdered, ArePairsOrdered, IsCanonical}
 pub use Rattle.passkey_cbor.specs.Depth.{depth, pairs_depth, items_depth}
 pub use Rattle.passkey_cbor.specs.EncodedAt.{IsEncodedAt, Lies, Next, Looks, Opens, Walks, PairsAreEncodedAt}
@@ -23,7 +23,7 @@ pub use Rattle.passkey_cbor.specs.Encoding.{Definite, pairs_len}
 pub use Rattle.passkey_cbor.specs.Found.{FindsHead}
 pub use Rattle.passkey_cbor.specs.Grows.{Grows}
 pub use Rattle.passkey_cbor.specs.HeadEncoding.{IsEncodingOfHead}
-pub use Rattle.passkey_cbor.proofs.Items.{pairs_of-members}
+pub use Rattle.passkey_cbor.proofs.items.Items.{pairs_of-members}
 pub use Rattle.passkey_cbor.specs.Inside.{Content, Left, PairWithin, Within, Inside}
 pub use Rattle.passkey_cbor.specs.Item.{Item, Pairs, no_pairs, pair, members, items_of, pairs_of, byte_string, array, boolean, null, text_string, elements, number}
 pub use Rattle.passkey_cbor.specs.Languages.{Each, Language}
@@ -37,7 +37,7 @@ pub use Rattle.passkey_cbor.specs.Reading.{item_within, chunk}
 pub use Rattle.passkey_cbor.specs.Skipped.{PassesLeadingItem, SkipsLeadingItem}
 pub use Rattle.passkey_cbor.specs.View.{item_of, pair_of}
 pub use Rattle.passkey_cbor.specs.HeadCount.{CountsHeads, content_len, heads_of}
-pub use Rattle.passkey_cbor.proofs.WholeHeads.{counts_then, counts_stay, counts_skip, counts_string, counts_head, counts_more}
+pub use Rattle.passkey_cbor.proofs.heads.WholeHeads.{counts_then, counts_stay, counts_skip, counts_string, counts_head, counts_more}
 pub use Rattle.passkey_cbor.specs.CursorState.{CursorState, LooksOnce, ahead, MovesForward, raised, break_heads}
 pub use Rattle.passkey_cbor.specs.Writable.{IsWritable, ArePairsWritable}
 unfoldable pub use Rattle.passkey_cbor.specs.Written.{shortest_head}

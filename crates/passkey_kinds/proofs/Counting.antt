@@ -3,7 +3,7 @@ use Rattle.passkey_kinds.proofs.Common.{Fault, as_nested, Item, byte_string, nul
 use Rattle.passkey_kinds.specs.Kind.{CountsDataItems, CountsKept, CountsLeast, Least, UnlessOutOfMemory, authenticator_data_least, if_accepted, least_and, least_elements, least_members, least_of, least_sum, least_unless_null, no_least, unless_null}
 use Rattle.passkey_kinds.specs.Reader.{least_parts}
 use Rattle.passkey_kinds.specs.RecordReading.{least_in, least_in_map}
-use Rattle.passkey_cbor.proofs.Raised.{raised_monotone, raised_then}
+use Rattle.passkey_cbor.proofs.heads.Raised.{raised_monotone, raised_then}
 use Rattle.passkey_cbor.specs.Item as item
 use Rattle.passkey_kinds.specs.declared.fault.Fault.TheVariants as fault
 
@@ -28,9 +28,9 @@ least_later x {a} {b} p q = record {
 -- the cursor went back in between
 pub rises_again : {a b d e : CursorState} {place : ℕ} → Onward a b → d ≡ record b { place = place } → MovesForward d e
     → CountsLeast no_least a e
-rises_again on back went = record {
-  heads = omega (arith, on.heads, ap (λ (w : CursorState). w.heads) back, went.heads);
-  nodes = omega (arith, on.nodes, ap (λ (w : CursorState). w.nodes) back, went.nodes);
+rises_again on back moves = record {
+  heads = omega (arith, on.heads, ap (λ (w : CursorState). w.heads) back, moves.heads);
+  nodes = omega (arith, on.nodes, ap (λ (w : CursorState). w.nodes) back, moves.nodes);
 }
 
 -- ---- what a kind keeps

@@ -3,7 +3,7 @@ use Rattle.passkey_kinds.proofs.Common.{front_long, SkipsLeadingItem, Bool, Coun
 use Rattle.passkey_kinds.proofs.Lists.{answers_from, never_grows}
 use Rattle.passkey_cbor.specs.declared.head.Head.TheVariants as head
 use Rattle.passkey_cbor.specs.Item as item
-pub use Rattle.passkey_cbor.proofs.Gathering.{on_ok}
+pub use Rattle.passkey_cbor.proofs.building.Gathering.{on_ok}
 
 -- ---- moving on
 
@@ -13,7 +13,7 @@ onward_of a b w = grind arith
 pub onward_then : (a b c : CursorState) → Onward a b → Onward b c → Onward a c
 onward_then a b c p q = grind arith
 
--- ---- further on
+-- ---- past it
 
 item_long : (x : Item) (t : List ℕ) → Within max_depth x t → 0 < length t
 item_long x t e = encoded_long (Within max_depth) (item_within max_depth) (follows_item max_depth) x t e
@@ -224,7 +224,7 @@ pub ruleset heads = (onward_of)
 
 -- ---- values of one head or of one string, decoded at a cursor
 
--- further on after one part, and after a second one that was decoded
+-- past it after one part, and after a second one that was decoded
 pub further_counted : {T E : Type 0} {a b : CursorState} (c : CursorState) (r : Result T E) → Further a b → b.place ≤ c.place
     → OnOk r (CountsHeads b c) → OnOk r (Further a c)
 further_counted {a = a} {b} c (Ok x) p on h = further_then a b c p h on

@@ -8,7 +8,7 @@ use Rattle.passkey_cbor.specs.Skipped.{PassesLeadingItem}
 use Rattle.passkey_cbor.specs.CursorState.{CursorState, ahead}
 use Rattle.passkey_cbor.specs.LeadingItem.{IsLeadingItem}
 use Rattle.passkey_cbor.specs.Lent.{Region, LendsFrom}
-use Rattle.passkey_cbor.proofs.EncodedFrom.{front_stands}
+use Rattle.passkey_cbor.proofs.items.EncodedFrom.{front_stands}
 use Rattle.passkey_kinds.proofs.Common.{only_one, byte_string, members_in}
 use Rattle.passkey_kinds.specs.LentItem.{ValueLies, IfRow}
 use Rattle.passkey_kinds.specs.declared.rows.Named.TheVariants.{Row, Unknown}
@@ -89,20 +89,20 @@ pub value_here : (n : ℕ) (key : Named) (i : Item) (others : Option Item) → i
     → value_if n (named_as key) i others ≡ Some i
 value_here n key i others e = grind arith
 
-pub value_behind : (n : ℕ) (key : Named) (i : Item) (others : Option Item) → is_row n (named_as key) ≡ false
+pub value_after : (n : ℕ) (key : Named) (i : Item) (others : Option Item) → is_row n (named_as key) ≡ false
     → value_if n (named_as key) i others ≡ others
-value_behind n key i others e = grind arith
+value_after n key i others e = grind arith
 
 -- the first member's value is wanted, or one after it
-pub row_here : (n : ℕ) (key : Named) (Here Behind : Type 0) → is_row n (named_as key) ≡ true → Here
-    → IfRow n (named_as key) Here Behind
-row_here n (Row k) Here Behind is h = rw is h
-row_here n Unknown Here Behind is h = absurd cc
+pub row_here : (n : ℕ) (key : Named) (Here After : Type 0) → is_row n (named_as key) ≡ true → Here
+    → IfRow n (named_as key) Here After
+row_here n (Row k) Here After is h = rw is h
+row_here n Unknown Here After is h = absurd cc
 
-row_behind : (n : ℕ) (key : Named) (Here Behind : Type 0) → is_row n (named_as key) ≡ false → Behind
-    → IfRow n (named_as key) Here Behind
-row_behind n (Row k) Here Behind is h = rw is h
-row_behind n Unknown Here Behind is h = h
+row_after : (n : ℕ) (key : Named) (Here After : Type 0) → is_row n (named_as key) ≡ false → After
+    → IfRow n (named_as key) Here After
+row_after n (Row k) Here After is h = rw is h
+row_after n Unknown Here After is h = h
 
 pub passed : {table : Table} {n : ℕ} {ms : Members} {to : ℕ} {left : Option ℕ} {key : Named}
     {old k d : CursorState} → is_row n (named_as key) ≡ false → (w : NextAhead table n ms to left (Some key) old k)
@@ -110,8 +110,8 @@ pub passed : {table : Table} {n : ℕ} {ms : Members} {to : ℕ} {left : Option 
 passed {n = n} {key = key} other w p = record {
   rest = w.others;
   ahead = rw (p.bytes, p.place) w.after;
-  same = w.same ∙ value_behind n key w.value _ other;
-  lies = λ from end h. w.lies from end (row_behind n key _ _ other (rw (sym p.bytes, sym p.place) h));
+  same = w.same ∙ value_after n key w.value _ other;
+  lies = λ from end h. w.lies from end (row_after n key _ _ other (rw (sym p.bytes, sym p.place) h));
 }
 
 -- ---- the byte string that the value is

@@ -11,7 +11,7 @@ use Rattle.passkey_cbor.specs.declared.head.Head.{Head}
 use Rattle.passkey_cbor.specs.declared.head.Head.TheVariants as head
 use Rattle.passkey_kinds.proofs.Common.{only_one, members_in}
 use Rattle.passkey_kinds.proofs.Finding.{leads}
-use Rattle.passkey_cbor.proofs.EncodedFrom.{front_stands}
+use Rattle.passkey_cbor.proofs.items.EncodedFrom.{front_stands}
 use Rattle.passkey_kinds.specs.Lending.{value_among, FindsValue}
 use Rattle.passkey_kinds.specs.LentItem.{value_in, Chosen, IfRow, ValueLies, ValueEnds, ValueAt, Entered, EntersValue, LendsMember}
 use Rattle.passkey_kinds.specs.Reader.{OpensAt}
@@ -19,13 +19,13 @@ use Rattle.passkey_kinds.specs.Record.{Table, Naming, row, unknown, wrong, named
 
 -- ---- an item is encoded between the two offsets
 
-module _ {bytes : List ℕ} {from to middle next : ℕ} (i : Item) {Behind : Type 0} (s : IsEncodedAt i bytes middle next)
-    (later : Behind → (j : Item) × IsEncodedAt j bytes from to) where
-  chosen : (b : Bool) → Chosen b ((from ≡ middle) × (to ≡ next)) Behind → (j : Item) × IsEncodedAt j bytes from to
+module _ {bytes : List ℕ} {from to middle next : ℕ} (i : Item) {After : Type 0} (s : IsEncodedAt i bytes middle next)
+    (later : After → (j : Item) × IsEncodedAt j bytes from to) where
+  chosen : (b : Bool) → Chosen b ((from ≡ middle) × (to ≡ next)) After → (j : Item) × IsEncodedAt j bytes from to
   chosen true h = (i, rw (h.0, h.1) s)
   chosen false h = later h
 
-  in_row : (n : ℕ) (naming : Naming) → IfRow n naming ((from ≡ middle) × (to ≡ next)) Behind
+  in_row : (n : ℕ) (naming : Naming) → IfRow n naming ((from ≡ middle) × (to ≡ next)) After
       → (j : Item) × IsEncodedAt j bytes from to
   in_row n wrong h = absurd h
   in_row n (row k) h = chosen (k == n) h

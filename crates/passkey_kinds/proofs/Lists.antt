@@ -110,13 +110,14 @@ never_grows i h = grind arith
 
 -- ---- what a tolerant list skips
 
-values_without : {M : Type 0} (kind : Kind M) (before behind : List Item) (x : Item) → kind x ≡ None
-    → filter_map kind (before ++ x ∷ behind) ≡ filter_map kind (before ++ behind)
-values_without {M} kind before behind x refused = grind (arith, filter_map-append)
+values_without : {M : Type 0} (kind : Kind M) (before following : List Item) (x : Item) → kind x ≡ None
+    → filter_map kind (before ++ x ∷ following) ≡ filter_map kind (before ++ following)
+values_without {M} kind before following x refused = grind (arith, filter_map-append)
 
-pub refused_is_passed_over : {M : Type 0} (kind : Kind M) (before behind : List Item) (x : Item) → kind x ≡ None
-    → accepted_from kind (array (items_of (before ++ x ∷ behind))) ≡ accepted_from kind (array (items_of (before ++ behind)))
-refused_is_passed_over kind before behind x refused = grind (arith, accepted_array, values_without)
+pub refused_is_passed_over : {M : Type 0} (kind : Kind M) (before following : List Item) (x : Item) → kind x ≡ None
+    → accepted_from kind (array (items_of (before ++ x ∷ following)))
+    ≡ accepted_from kind (array (items_of (before ++ following)))
+refused_is_passed_over kind before following x refused = grind (arith, accepted_array, values_without)
 
 -- ---- lists that are encoded one value after the other
 

@@ -64,7 +64,7 @@ module _ {A : Type 0} {P : A → Language} {Done : List A → Type 0} {kept : Li
   pub next_is : Walks P before after a b true → Next P after e.rest b.bytes b.place to
   next_is walks = walks e.rest to e.ahead
 
-  -- what was spent on it in full or in part, and on those before it: its end is no further than the list's
+  -- what was spent on it in full or in part, and on those before it: its end is not past the list's
   pub spent_within : (d : CursorState) → Looks before after a b true → (n : Next P after e.rest b.bytes b.place to)
       → (one : ℕ) → kept (n.first ∷ n.others) ≡ one + kept n.others → SpendsLess cost one n.middle b d
       → Spends cost (kept is) to start d

@@ -61,17 +61,17 @@ IsOfMap _ = Unit {0}
 module _ {P : Type 0} (t : Fields P) where
   -- ---- unknown members
 
-  skipped : (before behind : Members) (key value : Item) → named (table_of t) key ≡ unknown → (s : Progress P)
-      → read_from t (before ++ (key, value) ∷ behind) s ≡ read_from t (before ++ behind) s
-  skipped [] behind key value naming s =
-      ap (λ (n : Naming). result_and_then (λ r. read_from t behind r) (one_more t n value s)) naming
-  skipped (m ∷ before) behind key value naming s =
-      let rest = skipped before behind key value naming in
+  skipped : (before following : Members) (key value : Item) → named (table_of t) key ≡ unknown → (s : Progress P)
+      → read_from t (before ++ (key, value) ∷ following) s ≡ read_from t (before ++ following) s
+  skipped [] following key value naming s =
+      ap (λ (n : Naming). result_and_then (λ r. read_from t following r) (one_more t n value s)) naming
+  skipped (m ∷ before) following key value naming s =
+      let rest = skipped before following key value naming in
       grind (arith, rest)
 
-  pub unknown_is_skipped : (before behind : Members) (key value : Item) → named (table_of t) key ≡ unknown
-      → read_members t (before ++ (key, value) ∷ behind) ≡ read_members t (before ++ behind)
-  unknown_is_skipped before behind key value naming = skipped before behind key value naming _
+  pub unknown_is_skipped : (before following : Members) (key value : Item) → named (table_of t) key ≡ unknown
+      → read_members t (before ++ (key, value) ∷ following) ≡ read_members t (before ++ following)
+  unknown_is_skipped before following key value naming = skipped before following key value naming _
 
   -- ---- members that are decoded alike
 
@@ -125,7 +125,7 @@ pub alike_differ_in_length : {A P : Type 0} → AtMostOneLeadingItem → (view :
 alike_differ_in_length law view t = alike law view (read_item t) (knows_items t)
 
 pub skips_unknown : {A P : Type 0} → AtMostOneLeadingItem → (view : A → P) (t : Fields P) → PassesOverUnknown view t
-skips_unknown law view t before behind key value naming =
+skips_unknown law view t before following key value naming =
     search (rules, alike_differ_in_length, members-pairs_of, unknown_is_skipped)
 
 -- ---- memory runs out only for an item that takes memory
@@ -149,8 +149,8 @@ pub record WentBack (old s a : CursorState) : Type 0 where
   pub heads : a.heads ≡ s.heads
   pub nodes : a.nodes ≡ s.nodes
 
-pub went_back : (old s a : CursorState) (k : ℕ) → k ≡ old.place → a ≡ record s { place = k } → WentBack old s a
-went_back old s a k at e = grind (arith)
+pub moves_back : (old s a : CursorState) (k : ℕ) → k ≡ old.place → a ≡ record s { place = k } → WentBack old s a
+moves_back old s a k at e = grind (arith)
 
 -- A message whose item was skipped and then decoded from the same place.
 module _ {A P : Type 0} (view : A → P) (t : Fields P) (old s a b : CursorState) (p : PassesLeadingItem old s)

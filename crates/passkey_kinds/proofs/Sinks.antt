@@ -48,10 +48,10 @@ accepted_all = laid_has IsWritable (λ ms. ArePairsWritable (pairs_of ms)) (λ k
 members_len : (ps : List Place) → put_all count_one 0 ps ≡ pairs_len (pairs_of (laid ps))
 members_len ps = omega (arith, counted_all 0 ps, pairs_len-pairs_of (laid ps))
 
-pub record_written : (ps : List Place) (n : ℕ) (old behind new : List ℕ) → n ≡ put_all count_one 0 ps
-    → behind ≡ old ++ shortest_head 5 n → new ≡ put_all encode_member behind ps
+pub record_written : (ps : List Place) (n : ℕ) (old following new : List ℕ) → n ≡ put_all count_one 0 ps
+    → following ≡ old ++ shortest_head 5 n → new ≡ put_all encode_member following ps
     → new ≡ old ++ written (record_tree ps)
-record_written ps n old behind new count head put = grind (arith, encoded_all, append_assoc, members_len)
+record_written ps n old following new count head put = grind (arith, encoded_all, append_assoc, members_len)
 
 pub record_writable : (ps : List Place) (n : ℕ) → n ≡ put_all count_one 0 ps → n < 2 ^ 64
     → AllAccepted IsWritable ps → IsWritable (record_tree ps)

@@ -13,7 +13,7 @@ pub use Rattle.passkey_kinds.proofs.Keys.{found_at, not_wrong, names_found, name
 pub use Rattle.passkey_kinds.proofs.Lawful.{IsLawful, lawful, raised, IsLawfulAs, descriptor_law, parameters_law, user_law}
 pub use Rattle.passkey_kinds.proofs.Loops.{EachTo, next_is, one_spare, spent_within, some_are, one_more_done, each_done, at_least, kept_pairs, kept_record, cost_by_le, key_spent, member_spent}
 pub use Rattle.passkey_kinds.proofs.Members.{members_are, key_names, goes_on, fails, all_read, reads_from, no_record, held_answers, held_ok, sets_put}
-pub use Rattle.passkey_kinds.proofs.RecordLaws.{may_grow, went_back, message_is, fault_is, skips_unknown}
+pub use Rattle.passkey_kinds.proofs.RecordLaws.{may_grow, moves_back, message_is, fault_is, skips_unknown}
 pub use Rattle.passkey_kinds.proofs.Ordered.{keys_ascend, Rule, plainly, IsPlain, null_plain, map_plain, list_plain, numbers_plain, truth_plain, text_plain}
 pub use Rattle.passkey_kinds.proofs.ByteMaps.{short_first_is, sorted-map}
 pub use Rattle.passkey_kinds.proofs.Sinks.{record_writable, record_written}

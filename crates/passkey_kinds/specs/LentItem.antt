@@ -15,13 +15,13 @@ abbrev pub value_in : Table → ℕ → Item → Option Item
 value_in table n i = option_and_then (value_among table n) (members_in i)
 
 abbrev pub Chosen : Bool → Type 0 → Type 0 → Type 0
-Chosen true Here Behind = Here
-Chosen false Here Behind = Behind
+Chosen true Here After = Here
+Chosen false Here After = After
 
 -- the first if a map key names row n, and else the second, unless no record can have the key
 abbrev pub IfRow : ℕ → Naming → Type 0 → Type 0 → Type 0
-IfRow n wrong Here Behind = ⊥
-IfRow n naming Here Behind = Chosen (is_row n naming) Here Behind
+IfRow n wrong Here After = ⊥
+IfRow n naming Here After = Chosen (is_row n naming) Here After
 
 -- Of members that are encoded one after the other from an offset on, the first that names row n has its value
 -- between these two offsets.

@@ -76,7 +76,7 @@ pub record ReadsHere {A P : Type 0} (view : A → P) (t : Fields P) (cost : ℕ)
   pub reads : ReadsMessage view (read_item t) (ahead old) (with_length old new result)
   pub grows : result ≡ Err fault.OutOfMemory → GrowsMessage t (ahead old)
   pub stays : OnErr result (new.place ≡ old.place)
-  pub went : MovesForward old new
+  pub moves : MovesForward old new
   pub least : raised old.heads 1 ≤ new.heads
   pub all_heads : (i : Item) (len : ℕ) → IsLeadingItem (ahead old) i len
       → raised old.heads (heads_of (take len (ahead old))) ≤ new.heads
@@ -158,13 +158,14 @@ WrittenIsCanonical {P} tree is_coherent kept =
 
 -- An element that the kind refuses changes nothing, wherever it is in a tolerant list.
 abbrev pub RefusedElementIsPassedOver : Type 0 → Type 0
-RefusedElementIsPassedOver M = (kind : Kind M) (before behind : List Item) (x : Item) → kind x ≡ None
-    → accepted_from kind (array (items_of (before ++ x ∷ behind))) ≡ accepted_from kind (array (items_of (before ++ behind)))
+RefusedElementIsPassedOver M = (kind : Kind M) (before following : List Item) (x : Item) → kind x ≡ None
+    → accepted_from kind (array (items_of (before ++ x ∷ following)))
+    ≡ accepted_from kind (array (items_of (before ++ following)))
 
 -- A member under a key that the table doesn't know changes nothing, wherever it is.
 abbrev pub UnknownMemberIsPassedOver : {P : Type 0} → Fields P → Type 0
-UnknownMemberIsPassedOver t = (before behind : Members) (key value : Item) → named (table_of t) key ≡ unknown
-    → read_members t (before ++ (key, value) ∷ behind) ≡ read_members t (before ++ behind)
+UnknownMemberIsPassedOver t = (before following : Members) (key value : Item) → named (table_of t) key ≡ unknown
+    → read_members t (before ++ (key, value) ∷ following) ≡ read_members t (before ++ following)
 
 -- ---- members that decode alike
 
@@ -202,9 +203,9 @@ SameAnswersReadAlike t = (ms ns : Members) → HasNoWrongKey (table_of t) ms →
 -- from the map without it, wherever the member is.
 abbrev pub PassesOverUnknown : {A P : Type 0} → (A → P) → Fields P → Type 0
 PassesOverUnknown view t =
-    (before behind : Members) (key value : Item) →
+    (before following : Members) (key value : Item) →
     named (table_of t) key ≡ unknown →
-    DifferInLength view (read_item t) (map_tree (before ++ behind)) (map_tree (before ++ (key, value) ∷ behind))
+    DifferInLength view (read_item t) (map_tree (before ++ following)) (map_tree (before ++ (key, value) ∷ following))
 
 -- ---- faults that no item has
 

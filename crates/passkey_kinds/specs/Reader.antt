@@ -32,7 +32,7 @@ pub record Further (old new : CursorState) : Type 0 where
   pub forward : old.place < new.place
   pub counts : CountsHeads old new
 
--- The cursor is no further than `to`. At most `cost` heads were decoded for each byte up to there,
+-- The cursor isn't past `to`. At most `cost` heads were decoded for each byte up to there,
 -- and at most `kept` data items were made as values.
 pub record Spends (cost kept to : ℕ) (old new : CursorState) : Type 0 where
   pub within : new.place ≤ to

@@ -1,7 +1,8 @@
 //! COSE algorithm identifiers, decoded from data items and encoded.
 ghost use Rattle.std.specs.Prelude.{◌≡◌, ℕ, List, true};
 ghost use Rattle.std.specs.Option.{option_and_then};
-ghost use Rattle.passkey_kinds.specs.Words.{IsRegion, HoldsString, algorithm_named, algorithm_number, algorithm_tree, AnswersAs, LooksAtMost, algorithm, whole_64, scalar_of, signed_in};
+ghost use Rattle.passkey_kinds.specs.Words.{IsRegion, HoldsString, algorithm_named, algorithm_number, algorithm_tree, AnswersAs};
+ghost use Rattle.passkey_kinds.specs.Words.{LooksAtMost, algorithm, whole_64, scalar_of, signed_in};
 
 use crate::head::read_scalar;
 use crate::{Form, FromCbor, Look, OutOfMemory, Refusal, ToCbor, Wanted, looked};

@@ -1,6 +1,8 @@
 //! Arrays of 32 bytes, decoded from data items and encoded as arrays of integers.
 ghost use Rattle.std.specs.Prelude.{◌≡◌, ◌==◌, ℕ, [], OnOk, List, length, map, take, if◌then◌else◌, false, Some, None};
-ghost use Rattle.passkey_kinds.specs.Words.{Item, HoldsString, IsEncodedAt, Further, Onward, Decodes, LooksAtMost, item_of, byte_string, Answers, AnswersAs, each, AreBytes, numbers_tree, sized_bytes, filling, full, numbers_in, MayGrow};
+ghost use Rattle.passkey_kinds.specs.Words.{Item, HoldsString, IsEncodedAt, Further, Onward, Decodes, LooksAtMost, item_of};
+ghost use Rattle.passkey_kinds.specs.Words.{byte_string, Answers, AnswersAs, each, AreBytes, numbers_tree, sized_bytes, filling};
+ghost use Rattle.passkey_kinds.specs.Words.{full, numbers_in, MayGrow};
 ghost use Rattle.passkey_kinds.specs.Kind.{number_from};
 
 use crate::collect::{Gather, read_elements, read_whole};

@@ -1,6 +1,8 @@
 //! Elements of arrays and members of maps, decoded one after the other at a cursor.
 ghost use Rattle.std.specs.Prelude.{◌<◌, ◌≤◌, ◌+◌, ℕ, suc, IsTrue, List, length, map, is_ok, IfSome, None, OnOk};
-ghost use Rattle.passkey_kinds.specs.Words.{CountsHeads, Item, item_of, AnswersAs, CountsLeast, IsEncodedAt, kept_sum, least_sum, Decodes, Spends, Further, Onward, OpensAt, Gathering, in_array, Way, AddsOne, Collects, collected};
+ghost use Rattle.passkey_kinds.specs.Words.{CountsHeads, Item, item_of, AnswersAs, CountsLeast, IsEncodedAt, kept_sum, least_sum};
+ghost use Rattle.passkey_kinds.specs.Words.{Decodes, Spends, Further, Onward, OpensAt, Gathering, in_array, Way, AddsOne};
+ghost use Rattle.passkey_kinds.specs.Words.{Collects, collected};
 ghost use Rattle.passkey_cbor.specs.EncodedAt.{Lies};
 ghost use Rattle.passkey_cbor.specs.Inside.{Left};
 

@@ -1,6 +1,7 @@
 //! Authenticator data and AAGUIDs, decoded from byte strings and encoded as byte strings.
 ghost use Rattle.std.specs.Prelude.{◌≡◌, ℕ, ◌+◌, ◌*◌, ◌≤◌, length, List};
-ghost use Rattle.passkey_kinds.specs.Words.{byte_string, data_nodes, IsData, DataParts, data_parts, Answers, authenticator_data, aaguid, CountsData, CountsDataItems, UnlessOutOfMemory, data_tree, aaguid_tree};
+ghost use Rattle.passkey_kinds.specs.Words.{byte_string, data_nodes, IsData, DataParts, data_parts, Answers, authenticator_data};
+ghost use Rattle.passkey_kinds.specs.Words.{aaguid, CountsData, CountsDataItems, UnlessOutOfMemory, data_tree, aaguid_tree};
 
 use crate::array::filled;
 use crate::{Form, FromCbor, Look, OutOfMemory, Refusal, ToCbor, Wanted, looked};

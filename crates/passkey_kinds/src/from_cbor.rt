@@ -2,7 +2,8 @@
 ghost use Rattle.std.specs.Prelude.{◌≡◌, ◌^◌, ℕ, Option, option_map, OnOk, is_ok, true};
 ghost use Rattle.passkey_kinds.specs.Look.{Looks, tested};
 ghost use Rattle.passkey_kinds.specs.Shape.{reached};
-ghost use Rattle.passkey_kinds.specs.Words.{tolerated, Item, IsEncodedAt, item_of, Answers, Typed, CountsKept, Onward, Further, ReadsAs, truth, below, text, item, optional, scalar_of};
+ghost use Rattle.passkey_kinds.specs.Words.{tolerated, Item, IsEncodedAt, item_of, Answers, Typed, CountsKept, Onward, Further};
+ghost use Rattle.passkey_kinds.specs.Words.{ReadsAs, truth, below, text, item, optional, scalar_of};
 
 use crate::head::read_scalar;
 use crate::look::accepted_if;

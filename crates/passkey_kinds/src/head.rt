@@ -1,7 +1,8 @@
 //! Decodes one head at a cursor, by the type of data item that is wanted.
 ghost use Rattle.std.specs.Prelude.{◌≡◌, ℕ, ◌+◌, ◌≤◌, IfSome};
 ghost use Rattle.std.specs.Option.{option_and_then};
-ghost use Rattle.passkey_kinds.specs.Words.{Item, null, IsEncodedAt, Onward, Further, Spends, max_depth, scalar_of, head_array, head_map, ReadsScalar, elements_in, members_in, OpensAt};
+ghost use Rattle.passkey_kinds.specs.Words.{Item, null, IsEncodedAt, Onward, Further, Spends, max_depth, scalar_of, head_array};
+ghost use Rattle.passkey_kinds.specs.Words.{head_map, ReadsScalar, elements_in, members_in, OpensAt};
 ghost use Rattle.passkey_cbor.specs.Inside.{Within, PairWithin};
 
 use passkey_cbor::{Cursor, Head};

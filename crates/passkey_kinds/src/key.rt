@@ -1,6 +1,8 @@
 //! Map keys at a cursor, and the rows that they name.
 ghost use Rattle.std.specs.Prelude.{◌≡◌, ◌≤◌, ◌*◌, ℕ, Bool, List, Option, length, map, take, true, false, IfNone, IfSome};
-ghost use Rattle.passkey_kinds.specs.Words.{Item, LooksOnce, LooksTwice, FindsRow, both_names, scalar_in, wrong, IsRegion, HoldsString, IsEncodedAt, Onward, Further, LooksAtMost, naming_of, named_as, entry_of, names, row_named, ReadsKey, row_at, scalar_of};
+ghost use Rattle.passkey_kinds.specs.Words.{Item, LooksOnce, LooksTwice, FindsRow, both_names, scalar_in, wrong, IsRegion};
+ghost use Rattle.passkey_kinds.specs.Words.{HoldsString, IsEncodedAt, Onward, Further, LooksAtMost, naming_of, named_as};
+ghost use Rattle.passkey_kinds.specs.Words.{entry_of, names, row_named, ReadsKey, row_at, scalar_of};
 
 use crate::head::read_scalar;
 use crate::rows::{Named, Row, of_number, with_name};

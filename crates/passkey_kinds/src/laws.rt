@@ -1,5 +1,7 @@
 //! Laws about decoding records and lists. Each is the contract of a function that does nothing.
-ghost use Rattle.passkey_kinds.specs.Words.{read_item, KeysAscend, KnowsMaps, PassesOverUnknown, AlikeDifferInLength, KnowsItems, RefusedElementIsPassedOver, SameAnswersReadAlike, UnknownMemberIsPassedOver, make_credential_signed, get_assertion_signed, plain_tree, WrittenIsCanonical};
+ghost use Rattle.passkey_kinds.specs.Words.{read_item, KeysAscend, KnowsMaps, PassesOverUnknown, AlikeDifferInLength, KnowsItems};
+ghost use Rattle.passkey_kinds.specs.Words.{RefusedElementIsPassedOver, SameAnswersReadAlike, UnknownMemberIsPassedOver};
+ghost use Rattle.passkey_kinds.specs.Words.{make_credential_signed, get_assertion_signed, plain_tree, WrittenIsCanonical};
 ghost use Rattle.passkey_kinds.specs.Numbered.{MessagesAreReadBack, is_shallow, kept_list};
 ghost use Rattle.std.specs.Prelude.{◌≡◌};
 ghost use Rattle.passkey_core.specs.SignedOutputs.{make_credential_item, get_assertion_item};

@@ -3,7 +3,8 @@ ghost use Rattle.std.specs.Prelude.{◌≡◌, ◌<◌, length, map, IfOk, OnOk}
 ghost use Rattle.std.specs.List.{All};
 ghost use Rattle.std.specs.List.Sorted.{IsPermutation};
 ghost use Rattle.std.specs.Map.Iter.{deref_pair};
-ghost use Rattle.passkey_kinds.specs.Words.{ByteMap, item_of, pair_of, AnswersAs, Item, byte_map_tree, entering, map_values, with_members, short_first, entry_tree, map_from_bytes};
+ghost use Rattle.passkey_kinds.specs.Words.{ByteMap, item_of, pair_of, AnswersAs, Item, byte_map_tree, entering, map_values};
+ghost use Rattle.passkey_kinds.specs.Words.{with_members, short_first, entry_tree, map_from_bytes};
 ghost use Rattle.std.specs.FinMap as fin;
 
 use crate::collect::{Collect, read_whole};

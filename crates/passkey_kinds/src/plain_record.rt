@@ -1,6 +1,8 @@
 //! Records whose members have names alone, and which keep no data item.
 ghost use Rattle.std.specs.Prelude.{◌≡◌, ◌≤◌, ℕ, true, false, length, map, is_ok, OnOk};
-ghost use Rattle.passkey_kinds.specs.Words.{Item, PlainTable, EachFits, fields_of, places_of, plain_tree, KeysAscend, IsReadBack, table_of, cost_at, keeps_at, shape_at, Puts, entry_of, AllAccepted, put_all, entries, plain_kind};
+ghost use Rattle.passkey_kinds.specs.Words.{Item, PlainTable, EachFits, fields_of, places_of, plain_tree, KeysAscend, IsReadBack};
+ghost use Rattle.passkey_kinds.specs.Words.{table_of, cost_at, keeps_at, shape_at, Puts, entry_of, AllAccepted, put_all, entries};
+ghost use Rattle.passkey_kinds.specs.Words.{plain_kind};
 
 use crate::{OutOfMemory, Refusal, Row, Sink, Source, TableRecord};
 use std::alloc::Global;

@@ -1,6 +1,10 @@
 //! Records, decoded member by member.
 ghost use Rattle.std.specs.Prelude.{◌≡◌, ◌≤◌, ℕ, Bool, true, false, length, map, get_or, is_ok, OnOk, set, [], None};
-ghost use Rattle.passkey_kinds.specs.Words.{CountsHeads, Item, max_depth, IsEncodedAt, PairsAreEncodedAt, item_of, pair_of, Onward, Further, MayGrowIn, MayGrowAt, Reads, named_as, Fields, table_of, read_members, read_item, nested, cost_at, keeps_at, shape_at, Puts, entry_of, Members, entries, named, MayGrowBy, one_more, progress_of, read_from, cost_by, keeps_by, DecodesMember, DecodesMembers, DecodesRecord, as_nested};
+ghost use Rattle.passkey_kinds.specs.Words.{CountsHeads, Item, max_depth, IsEncodedAt, PairsAreEncodedAt, item_of, pair_of};
+ghost use Rattle.passkey_kinds.specs.Words.{Onward, Further, MayGrowIn, MayGrowAt, Reads, named_as, Fields, table_of};
+ghost use Rattle.passkey_kinds.specs.Words.{read_members, read_item, nested, cost_at, keeps_at, shape_at, Puts, entry_of};
+ghost use Rattle.passkey_kinds.specs.Words.{Members, entries, named, MayGrowBy, one_more, progress_of, read_from, cost_by};
+ghost use Rattle.passkey_kinds.specs.Words.{keeps_by, DecodesMember, DecodesMembers, DecodesRecord, as_nested};
 ghost use Rattle.passkey_kinds.specs.Record.{first_missing as missing_of, unmarked};
 ghost use Rattle.passkey_cbor.specs.EncodedAt.{Lies};
 ghost use Rattle.passkey_cbor.specs.Inside.{PairWithin};

@@ -1,6 +1,7 @@
 //! Where a record's values are decoded from.
 ghost use Rattle.std.specs.Prelude.{◌≡◌, ℕ, suc, map, option_map, Option, Some, None, is_ok, Bool, true, false, OnOk};
-ghost use Rattle.passkey_kinds.specs.Words.{Shape, Item, IsEncodedAt, item_of, Keeping, nothing, Answers, Onward, Further, Costs, accepted, or_else, tolerated, Sets, costs_nothing, onward_same, costs_at_most};
+ghost use Rattle.passkey_kinds.specs.Words.{Shape, Item, IsEncodedAt, item_of, Keeping, nothing, Answers, Onward, Further, Costs};
+ghost use Rattle.passkey_kinds.specs.Words.{accepted, or_else, tolerated, Sets, costs_nothing, onward_same, costs_at_most};
 
 use crate::{FromCbor, Refusal, TolerantList, Tolerated};
 use passkey_bytes::List;

@@ -1,6 +1,8 @@
 //! Records that one table defines.
 ghost use Rattle.std.specs.Prelude.{◌≡◌, ◌≤◌, ℕ, Bool, true, length, map, is_ok, OnOk, Option, None};
-ghost use Rattle.passkey_kinds.specs.Words.{Item, PlainTable, EachFits, places_of, plain_tree, KeysAscend, IsReadBack, table_of, cost_at, keeps_at, shape_at, Puts, entry_of, AllAccepted, put_all, entries, record_kind};
+ghost use Rattle.passkey_kinds.specs.Words.{Item, PlainTable, EachFits, places_of, plain_tree, KeysAscend, IsReadBack, table_of};
+ghost use Rattle.passkey_kinds.specs.Words.{cost_at, keeps_at, shape_at, Puts, entry_of, AllAccepted, put_all, entries};
+ghost use Rattle.passkey_kinds.specs.Words.{record_kind};
 ghost use Rattle.passkey_kinds.specs.Numbered.{table_fields, is_shallow};
 
 use crate::{OutOfMemory, Record, RecordReadBack, Refusal, Row, Sink, Source, ToCborMap};

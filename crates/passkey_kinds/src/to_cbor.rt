@@ -1,6 +1,8 @@
 //! Values that are encoded as data items, and records that are encoded as maps.
 ghost use Rattle.std.specs.Prelude.{◌≡◌, ◌<◌, ◌^◌, ◌++◌, pos, List, IfOk, OnOk};
-ghost use Rattle.passkey_kinds.specs.Words.{AllAccepted, put_all, Place, record_tree, KeysAscend, encoding, Item, boolean, byte_string, text_string, item_of, IsWritable, written, IfPresent, Any, number_tree, option_tree, transport_tree, credential_type_tree};
+ghost use Rattle.passkey_kinds.specs.Words.{AllAccepted, put_all, Place, record_tree, KeysAscend, encoding, Item, boolean};
+ghost use Rattle.passkey_kinds.specs.Words.{byte_string, text_string, item_of, IsWritable, written, IfPresent, Any, number_tree};
+ghost use Rattle.passkey_kinds.specs.Words.{option_tree, transport_tree, credential_type_tree};
 ghost use Rattle.passkey_webauthn.specs.Names.{name_in};
 
 use crate::sink::Counted;

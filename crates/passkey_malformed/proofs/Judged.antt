@@ -16,9 +16,9 @@ pub none_there : {A : Type 0} (o : Option A) (P : Type 0) (Q : A → Type 0) →
 none_there None P Q m e = m
 none_there (Some x) P Q m e = absurd cc
 
-pub headed : {bytes behind : List ℕ} (h g : Head) → h ≡ g → Begins (IsEncodingOfHead h) bytes behind
-    → Begins (IsEncodingOfHead g) bytes behind
-headed {bytes} {behind} h g is b = subst (λ (k : Head). Begins (IsEncodingOfHead k) bytes behind) is b
+pub headed : {bytes following : List ℕ} (h g : Head) → h ≡ g → Begins (IsEncodingOfHead h) bytes following
+    → Begins (IsEncodingOfHead g) bytes following
+headed {bytes} {following} h g is b = subst (λ (k : Head). Begins (IsEncodingOfHead k) bytes following) is b
 
 pub nests_array : {h : Head} {len : Option ℕ} → h ≡ head.Array len → Nests h
 nests_array is = subst Nests (sym is) tt

@@ -6,8 +6,8 @@ use Rattle.passkey_cbor.specs.Languages.{Language, Each}
 use Rattle.passkey_cbor.specs.Heads.{break}
 use Rattle.passkey_cbor.specs.Inside.{Within, PairWithin, Left}
 use Rattle.passkey_cbor.specs.Reading.{Reader, item_within}
-use Rattle.passkey_cbor.proofs.Items.{follows_item}
-use Rattle.passkey_cbor.proofs.Lists.{each_and_one, Follows, encoded_long, each_long}
+use Rattle.passkey_cbor.proofs.items.Items.{follows_item}
+use Rattle.passkey_cbor.proofs.items.Lists.{each_and_one, Follows, encoded_long, each_long}
 use Rattle.passkey_malformed.specs.Stops.{Begins, ItemLeads}
 
 -- ---- one more after the others

@@ -6,10 +6,10 @@ use Rattle.std.proofs.lemmas.Bool.Decides.{nat_tests}
 use Rattle.passkey_cbor.specs.Bytes.{IsBytes}
 use Rattle.passkey_cbor.specs.Heads.{Size, one, two, four, eight, information, width, indefinite}
 use Rattle.passkey_cbor.specs.HeadEncoding.{IsEncodingOfHead}
-use Rattle.passkey_cbor.specs.HeadReading.{number_at, argument_at, with_argument, simple_at, head_behind, head_at}
+use Rattle.passkey_cbor.specs.HeadReading.{number_at, argument_at, with_argument, simple_at, head_after, head_at}
 use Rattle.passkey_cbor.specs.declared.head.Head.{Head}
 use Rattle.passkey_cbor.specs.declared.head.Head.TheVariants as head
-use Rattle.passkey_cbor.proofs.HeadTakes.{head_takes}
+use Rattle.passkey_cbor.proofs.heads.HeadTakes.{head_takes}
 use Rattle.passkey_malformed.specs.Stops.{HasNoHead, IsCutHead, IsReserved, IsBadSimple, NoHead}
 use Rattle.passkey_malformed.specs.declared.why.Why.{Why}
 use Rattle.passkey_malformed.specs.declared.why.Why.TheVariants as reason
@@ -35,8 +35,8 @@ with_some (suc (suc (suc (suc (suc (suc zero)))))) n lt = (_, refl)
 with_some (suc (suc (suc (suc (suc (suc (suc m))))))) n lt = absurd (omega arith)
 
 argued : (major info : ℕ) (bytes : List ℕ) (n : ℕ) (u : List ℕ) → major < 7 → info < 31
-    → argument_at info bytes ≡ Some (n, u) → head_behind major info bytes ≡ None → ⊥
-unfolding head_behind
+    → argument_at info bytes ≡ Some (n, u) → head_after major info bytes ≡ None → ⊥
+unfolding head_after
 argued major info bytes n u small lt e none =
     let h = with_some major n small in
     let f =
@@ -47,8 +47,8 @@ argument_short : (info : ℕ) (bytes : List ℕ) → info < 24 → argument_at i
 unfolding argument_at
 argument_short info bytes lt = rw (lt-ltb info 24 lt) refl
 
-simple_short : (info : ℕ) (bytes : List ℕ) → info < 24 → head_behind 7 info bytes ≡ None → ⊥
-unfolding head_behind simple_at
+simple_short : (info : ℕ) (bytes : List ℕ) → info < 24 → head_after 7 info bytes ≡ None → ⊥
+unfolding head_after simple_at
 simple_short info bytes lt e =
     let f = rw (ne_eqb info 31 (λ (q : info ≡ 31). omega arith), lt-ltb info 24 lt) at e in absurd cc
 
@@ -69,8 +69,8 @@ argument_there four bytes le = number_there four bytes le
 argument_there eight bytes le = number_there eight bytes le
 
 float_there : (s : Size) (bytes : List ℕ) → byte_len (width s) ≤ length bytes
-    → (information s ≡ 24 → length bytes ≡ 0) → head_behind 7 (information s) bytes ≡ None → ⊥
-unfolding head_behind simple_at
+    → (information s ≡ 24 → length bytes ≡ 0) → head_after 7 (information s) bytes ≡ None → ⊥
+unfolding head_after simple_at
 float_there one bytes le none e = omega (arith, none refl)
 float_there two bytes le none e =
     let n = number_there two bytes le in let f = rw n.1 at e in absurd cc
@@ -97,16 +97,16 @@ sized info le lt =
 
 -- ---- the reasons
 
-short_there : (major info : ℕ) (bytes : List ℕ) → major < 8 → info < 24 → head_behind major info bytes ≡ None → ⊥
+short_there : (major info : ℕ) (bytes : List ℕ) → major < 8 → info < 24 → head_after major info bytes ≡ None → ⊥
 short_there major info bytes small lt e =
     elim (cases_lt major 7) [
       | inl less ↦ argued major info bytes info bytes less (omega arith) (argument_short info bytes lt) e
       | inr more ↦ simple_short info bytes lt
-          (subst (λ (m : ℕ). head_behind m info bytes ≡ None) (let q : major ≡ 7 = omega arith in q) e)
+          (subst (λ (m : ℕ). head_after m info bytes ≡ None) (let q : major ≡ 7 = omega arith in q) e)
     ]
 
 long_there : (major : ℕ) (s : Size) (bytes : List ℕ) → major < 8 → byte_len (width s) ≤ length bytes
-    → (major ≡ 7 → information s ≡ 24 → length bytes ≡ 0) → head_behind major (information s) bytes ≡ None → ⊥
+    → (major ≡ 7 → information s ≡ 24 → length bytes ≡ 0) → head_after major (information s) bytes ≡ None → ⊥
 long_there major s bytes small le none e =
     elim (cases_lt major 7) [
       | inl less ↦
@@ -114,7 +114,7 @@ long_there major s bytes small le none e =
           argued major (information s) bytes n.0 (drop (byte_len (width s)) bytes) less (information-lt s) n.1 e
       | inr more ↦
           let q : major ≡ 7 = omega arith in
-          float_there s bytes le (none q) (subst (λ (m : ℕ). head_behind m (information s) bytes ≡ None) q e)
+          float_there s bytes le (none q) (subst (λ (m : ℕ). head_after m (information s) bytes ≡ None) q e)
     ]
 
 pub cut : (b : ℕ) (bytes : List ℕ) → IsBytes (b ∷ bytes) → HasNoHead (b ∷ bytes) → b % 32 < 28
@@ -122,7 +122,7 @@ pub cut : (b : ℕ) (bytes : List ℕ) → IsBytes (b ∷ bytes) → HasNoHead (
 unfolding head_at
 cut b bytes fits none low plain =
     let small : b < 256 = fits 0 in
-    let unread : head_behind (b / 32) (b % 32) bytes ≡ None = not_decoded (b ∷ bytes) fits none in
+    let unread : head_after (b / 32) (b % 32) bytes ≡ None = not_decoded (b ∷ bytes) fits none in
     elim (cases_lt (b % 32) 24) [
       | inl short ↦ absurd (short_there (b / 32) (b % 32) bytes (omega arith) short unread)
       | inr long ↦
@@ -131,7 +131,7 @@ cut b bytes fits none low plain =
             | inl few ↦ (s.0, (s.1, few))
             | inr enough ↦ absurd (long_there (b / 32) s.0 bytes (omega arith) enough
                 (λ (major : b / 32 ≡ 7) (info : information s.0 ≡ 24). plain (omega (arith, s.1)))
-                (subst (λ (i : ℕ). head_behind (b / 32) i bytes ≡ None) s.1 unread))
+                (subst (λ (i : ℕ). head_after (b / 32) i bytes ≡ None) s.1 unread))
           ]
     ]
 
@@ -192,20 +192,20 @@ is_none n b e t = grind (arith, nat_tests)
 pub is_some : (n : ℕ) (b : Bool) → b ≡ (n == 0) → b ≡ false → n ≡ 0 → ⊥
 is_some n b e f z = grind (arith, nat_tests)
 
-module _ (bytes : List ℕ) (b : ℕ) (behind : List ℕ) (fits : IsBytes bytes) (none : HasNoHead bytes)
-    (is : bytes ≡ b ∷ behind) where
+module _ (bytes : List ℕ) (b : ℕ) (following : List ℕ) (fits : IsBytes bytes) (none : HasNoHead bytes)
+    (is : bytes ≡ b ∷ following) where
   pub reserved_there : 28 ≤ b % 32 → IsReserved bytes
   reserved_there high =
-      subst IsReserved (sym is) (reserved b behind (subst IsBytes is fits) (subst HasNoHead is none) high)
+      subst IsReserved (sym is) (reserved b following (subst IsBytes is fits) (subst HasNoHead is none) high)
 
-  pub bad_simple_there : b ≡ 248 → (length behind ≡ 0 → ⊥) → IsBadSimple bytes
+  pub bad_simple_there : b ≡ 248 → (length following ≡ 0 → ⊥) → IsBadSimple bytes
   bad_simple_there full some =
-      subst IsBadSimple (sym is) (bad_simple b behind (subst IsBytes is fits) (subst HasNoHead is none) full some)
+      subst IsBadSimple (sym is) (bad_simple b following (subst IsBytes is fits) (subst HasNoHead is none) full some)
 
-  pub cut_there : b % 32 < 28 → (b ≡ 248 → length behind ≡ 0) → (why : Why) (rest : List ℕ) → why ≡ reason.CutOff
+  pub cut_there : b % 32 < 28 → (b ≡ 248 → length following ≡ 0) → (why : Why) (rest : List ℕ) → why ≡ reason.CutOff
       → rest ≡ [] → NoHead bytes why rest
   cut_there low plain why rest why_is rest_is =
       subst (λ (w : Why). NoHead bytes w rest) (sym why_is) (
-        subst IsCutHead (sym is) (cut b behind (subst IsBytes is fits) (subst HasNoHead is none) low plain),
+        subst IsCutHead (sym is) (cut b following (subst IsBytes is fits) (subst HasNoHead is none) low plain),
         rest_is,
       )

@@ -4,7 +4,7 @@ use Rattle.std.proofs.lemmas.List.{length-append, drop_at}
 use Rattle.passkey_cbor.specs.Languages.{Language}
 use Rattle.passkey_cbor.specs.LeadingItem.{max_depth, HasNoLeadingItem}
 use Rattle.passkey_cbor.specs.Reading.{chunk_len}
-use Rattle.passkey_malformed.specs.Stops.{Begins, NoHead, NoPiece, NoChunkBehind, NoChunk, no_head as no_chunk_head, no_content, StopsInString, Stops, at_head, at_stray, in_string, too_deep, in_list, in_tag, IsMalformed}
+use Rattle.passkey_malformed.specs.Stops.{Begins, NoHead, NoPiece, NoChunkAfter, NoChunk, no_head as no_chunk_head, no_content, StopsInString, Stops, at_head, at_stray, in_string, too_deep, in_list, in_tag, IsMalformed}
 use Rattle.passkey_malformed.specs.declared.why.Why.{Why}
 use Rattle.passkey_malformed.specs.declared.why.Why.TheVariants as reason
 
@@ -17,8 +17,8 @@ whole bytes rest e = ([], sym e)
 nothing : (bytes rest : List ℕ) → rest ≡ [] → EndsIn bytes rest
 nothing bytes rest e = (bytes, sym (append-nil bytes) ∙ ap (λ (r : List ℕ). bytes ++ r) (sym e))
 
-after : {P : Language} (bytes behind rest : List ℕ) → Begins P bytes behind → EndsIn behind rest → EndsIn bytes rest
-after bytes behind rest b e = (
+after : {P : Language} (bytes following rest : List ℕ) → Begins P bytes following → EndsIn following rest → EndsIn bytes rest
+after bytes following rest b e = (
   b.text ++ e.0,
   b.parts ∙ ap (λ (r : List ℕ). b.text ++ r) e.1 ∙ sym (append_assoc b.text e.0 rest),
 )
@@ -44,17 +44,17 @@ no_piece is_text n bytes reason.TooDeep rest p = absurd p
 no_piece is_text n bytes reason.OddMap rest p = absurd p
 no_piece is_text n bytes reason.BadSimple rest p = absurd p
 
-no_chunk_behind : {P : Language} (is_text : Bool) (len : Option ℕ) (here behind : List ℕ) (why : Why) (rest : List ℕ)
-    → Begins P here behind → NoChunkBehind is_text len here behind why rest → EndsIn here rest
-no_chunk_behind is_text (Some n) here behind why rest b p =
-    after here behind rest b (no_piece is_text n behind why rest p)
-no_chunk_behind is_text None here behind why rest b p = whole here rest p.1
+no_chunk_after : {P : Language} (is_text : Bool) (len : Option ℕ) (here following : List ℕ) (why : Why) (rest : List ℕ)
+    → Begins P here following → NoChunkAfter is_text len here following why rest → EndsIn here rest
+no_chunk_after is_text (Some n) here following why rest b p =
+    after here following rest b (no_piece is_text n following why rest p)
+no_chunk_after is_text None here following why rest b p = whole here rest p.1
 
 no_chunk : (is_text : Bool) (here : List ℕ) (why : Why) (rest : List ℕ) → NoChunk is_text here why rest
     → EndsIn here rest
 no_chunk is_text here why rest (no_chunk_head n) = no_head here why rest n
-no_chunk is_text here why rest (no_content h behind other b n) =
-    no_chunk_behind is_text (chunk_len is_text h) here behind why rest b n
+no_chunk is_text here why rest (no_content h following other b n) =
+    no_chunk_after is_text (chunk_len is_text h) here following why rest b n
 
 no_string : (is_text : Bool) (len : Option ℕ) (bytes : List ℕ) (why : Why) (rest : List ℕ)
     → StopsInString is_text len bytes why rest → EndsIn bytes rest
@@ -65,13 +65,13 @@ no_string is_text None bytes why rest s =
 pub ends_in : {levels : ℕ} {at_break why : Why} {bytes rest : List ℕ} → Stops levels at_break bytes why rest
     → EndsIn bytes rest
 ends_in {why = why} {bytes = bytes} {rest = rest} (at_head n) = no_head bytes why rest n
-ends_in {bytes = bytes} (at_stray behind b) = whole bytes bytes refl
-ends_in {why = why} {bytes = bytes} {rest = rest} (in_string is_text len behind b s) =
-    after bytes behind rest b (no_string is_text len behind why rest s)
-ends_in {bytes = bytes} {rest = rest} (too_deep h behind nests b t) = whole bytes rest t.there
-ends_in {bytes = bytes} {rest = rest} (in_list is_map len behind here items deeper b passed wanted s) =
-    after bytes behind rest b (after behind here rest passed (ends_in s))
-ends_in {bytes = bytes} {rest = rest} (in_tag n behind deeper b s) = after bytes behind rest b (ends_in s)
+ends_in {bytes = bytes} (at_stray following b) = whole bytes bytes refl
+ends_in {why = why} {bytes = bytes} {rest = rest} (in_string is_text len following b s) =
+    after bytes following rest b (no_string is_text len following why rest s)
+ends_in {bytes = bytes} {rest = rest} (too_deep h following nests b t) = whole bytes rest t.there
+ends_in {bytes = bytes} {rest = rest} (in_list is_map len following here items deeper b passed wanted s) =
+    after bytes following rest b (after following here rest passed (ends_in s))
+ends_in {bytes = bytes} {rest = rest} (in_tag n following deeper b s) = after bytes following rest b (ends_in s)
 
 pub ends_short : {levels : ℕ} {at_break why : Why} {bytes rest : List ℕ} → Stops levels at_break bytes why rest
     → length rest ≤ length bytes

@@ -83,16 +83,16 @@ NoPiece is_text n bytes reason.TooDeep rest = ⊥
 NoPiece is_text n bytes reason.OddMap rest = ⊥
 NoPiece is_text n bytes reason.BadSimple rest = ⊥
 
--- After a head, `behind` doesn't go on with the content of a chunk, whose length is known if it is a chunk's head.
-abbrev pub NoChunkBehind : Bool → Option ℕ → List ℕ → List ℕ → Why → List ℕ → Type 0
-NoChunkBehind is_text (Some n) here behind why rest = NoPiece is_text n behind why rest
-NoChunkBehind is_text None here behind why rest = (why ≡ reason.BadChunk) × (rest ≡ here)
+-- After a head, `following` doesn't go on with the content of a chunk, whose length is known if it is a chunk's head.
+abbrev pub NoChunkAfter : Bool → Option ℕ → List ℕ → List ℕ → Why → List ℕ → Type 0
+NoChunkAfter is_text (Some n) here following why rest = NoPiece is_text n following why rest
+NoChunkAfter is_text None here following why rest = (why ≡ reason.BadChunk) × (rest ≡ here)
 
 -- The bytes begin neither with a chunk nor with a break.
 pub data NoChunk (is_text : Bool) (here : List ℕ) (why : Why) (rest : List ℕ) : Type 0 where
   no_head : NoHead here why rest → NoChunk is_text here why rest
-  no_content : (h : Head) (behind : List ℕ) → (h ≡ head.Break → ⊥) → Begins (IsEncodingOfHead h) here behind
-      → NoChunkBehind is_text (chunk_len is_text h) here behind why rest → NoChunk is_text here why rest
+  no_content : (h : Head) (following : List ℕ) → (h ≡ head.Break → ⊥) → Begins (IsEncodingOfHead h) here following
+      → NoChunkAfter is_text (chunk_len is_text h) here following why rest → NoChunk is_text here why rest
 
 -- whole chunks
 abbrev pub Chunks : Bool → List (List ℕ) → Language
@@ -171,26 +171,26 @@ pub data Stops : ℕ → Why → List ℕ → Why → List ℕ → Type 0 where
   at_head : {levels : ℕ} {at_break why : Why} {bytes rest : List ℕ} → NoHead bytes why rest
       → Stops levels at_break bytes why rest
   -- a break
-  at_stray : {levels : ℕ} {why : Why} {bytes : List ℕ} (behind : List ℕ)
-      → Begins (IsEncodingOfHead head.Break) bytes behind → Stops levels why bytes why bytes
+  at_stray : {levels : ℕ} {why : Why} {bytes : List ℕ} (following : List ℕ)
+      → Begins (IsEncodingOfHead head.Break) bytes following → Stops levels why bytes why bytes
   -- the head of a string, and after it less than its content
   in_string : {levels : ℕ} {at_break why : Why} {bytes rest : List ℕ} (is_text : Bool) (len : Option ℕ)
-      (behind : List ℕ) → Begins (IsEncodingOfHead (string_head is_text len)) bytes behind
-      → StopsInString is_text len behind why rest → Stops levels at_break bytes why rest
+      (following : List ℕ) → Begins (IsEncodingOfHead (string_head is_text len)) bytes following
+      → StopsInString is_text len following why rest → Stops levels at_break bytes why rest
   -- the head of an array, a map or a tag, with no level left
-  too_deep : {levels : ℕ} {at_break why : Why} {bytes rest : List ℕ} (h : Head) (behind : List ℕ) → Nests h
-      → Begins (IsEncodingOfHead h) bytes behind → IsTooDeep levels bytes why rest
+  too_deep : {levels : ℕ} {at_break why : Why} {bytes rest : List ℕ} (h : Head) (following : List ℕ) → Nests h
+      → Begins (IsEncodingOfHead h) bytes following → IsTooDeep levels bytes why rest
       → Stops levels at_break bytes why rest
   -- the head of an array or a map, whole data items after it, and a stop in the next one
   in_list : {levels inner : ℕ} {at_break why : Why} {bytes rest : List ℕ} (is_map : Bool) (len : Option ℕ)
-      (behind here : List ℕ) (items : List Item) → levels ≡ suc inner
-      → Begins (IsEncodingOfHead (list_head is_map len)) bytes behind
-      → Begins (Each (Within inner) items) behind here → wants is_map len (length items) here ≡ true
+      (following here : List ℕ) (items : List Item) → levels ≡ suc inner
+      → Begins (IsEncodingOfHead (list_head is_map len)) bytes following
+      → Begins (Each (Within inner) items) following here → wants is_map len (length items) here ≡ true
       → Stops inner (break_in is_map len (length items)) here why rest → Stops levels at_break bytes why rest
   -- a tag number, and a stop in its content
-  in_tag : {levels inner : ℕ} {at_break why : Why} {bytes rest : List ℕ} (n : ℕ) (behind : List ℕ)
-      → levels ≡ suc inner → Begins (IsEncodingOfHead (head.Tag n)) bytes behind
-      → Stops inner reason.StrayBreak behind why rest → Stops levels at_break bytes why rest
+  in_tag : {levels inner : ℕ} {at_break why : Why} {bytes rest : List ℕ} (n : ℕ) (following : List ℕ)
+      → levels ≡ suc inner → Begins (IsEncodingOfHead (head.Tag n)) bytes following
+      → Stops inner reason.StrayBreak following why rest → Stops levels at_break bytes why rest
 
 -- After the head of an array or a map, and whole data items in it, a stop in the next one.
 pub record StopsInList (is_map : Bool) (len : Option ℕ) (levels : ℕ) (bytes : List ℕ) (why : Why) (rest : List ℕ) :

@@ -3,7 +3,7 @@ ghost use Rattle.std.specs.Prelude.{MatchOption};
 ghost use Rattle.passkey_malformed.specs.Stops.{HasLeadingItem, IsMalformed};
 
 use crate::heads::Stop;
-use crate::items::behind_item;
+use crate::items::after_item;
 use crate::why::{Malformed, Why};
 use passkey_cbor::{MAX_DEPTH, item_len};
 
@@ -16,7 +16,7 @@ pub fn malformed(bytes: &[u8]) -> Option<Malformed>
     if item_len(bytes).is_some() {
         return None;
     }
-    match behind_item(bytes, MAX_DEPTH, Why::StrayBreak) {
+    match after_item(bytes, MAX_DEPTH, Why::StrayBreak) {
         Ok(_) => None,
         Err(Stop { why, rest }) => {
             let offset = bytes.len() - rest.len();

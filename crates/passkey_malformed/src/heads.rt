@@ -28,7 +28,7 @@ pub(crate) fn cut_off(bytes: &[u8]) -> Stop<'_>
 }
 
 /// Returns the head at the beginning of the bytes and the bytes after it, or why none is there.
-pub(crate) fn behind_head(bytes: &[u8]) -> Result<(Head, &[u8]), Stop<'_>>
+pub(crate) fn after_head(bytes: &[u8]) -> Result<(Head, &[u8]), Stop<'_>>
     ensures { MatchResult result (λ r. Begins (IsEncodingOfHead r.0) bytes.now r.1.now)
         (λ s. NoHead bytes.now s.why s.rest.now) }
 {
@@ -46,14 +46,14 @@ fn no_head(bytes: &[u8]) -> Stop<'_>
 {
     match bytes.split_first() {
         None => cut_off(bytes),
-        Some((initial, behind)) => {
+        Some((initial, following)) => {
             if *initial % 32 >= 28 {
                 return Stop {
                     why: Why::ReservedArgument,
                     rest: bytes,
                 };
             }
-            if *initial == 0xf8 && !behind.is_empty() {
+            if *initial == 0xf8 && !following.is_empty() {
                 return Stop {
                     why: Why::BadSimple,
                     rest: bytes,

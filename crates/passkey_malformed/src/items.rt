@@ -4,8 +4,8 @@ ghost use Rattle.passkey_cbor.specs.EncodedAt.{goes_on};
 ghost use Rattle.passkey_malformed.specs.declared.why.Why.TheVariants.{TooDeep as NoLevel};
 ghost use Rattle.passkey_malformed.specs.Stops.{ItemLeads, ListLeads, Stops, StopsInList, wants, awaits_value, break_in};
 
-use crate::heads::{Stop, behind_head};
-use crate::strings::behind_string;
+use crate::heads::{Stop, after_head};
+use crate::strings::after_string;
 use crate::why::Why;
 use passkey_cbor::Head;
 
@@ -62,7 +62,7 @@ fn break_in(is_map: bool, len: Option<u64>, passed: usize) -> Why
 /// Returns the bytes after the data items of an array or a map of this length, each of at most
 /// `levels` levels, and after the break if the length is indefinite.
 #[cycle(items)]
-fn behind_list(
+fn after_list(
     is_map: bool,
     len: Option<u64>,
     bytes: &[u8],
@@ -74,7 +74,7 @@ fn behind_list(
     let mut here = bytes;
     let mut passed = 0;
     while wants(is_map, len, passed, here) {
-        match behind_item(here, levels, break_in(is_map, len, passed)) {
+        match after_item(here, levels, break_in(is_map, len, passed)) {
             Ok(next) => here = next,
             Err(stop) => return Err(stop),
         }
@@ -100,32 +100,32 @@ fn too_deep(bytes: &[u8]) -> Stop<'_>
 /// Returns the bytes after a data item of at most `levels` levels, or why none is there: `at_break`
 /// if a break is.
 #[cycle(items)]
-pub(crate) fn behind_item(bytes: &[u8], levels: usize, at_break: Why) -> Result<&[u8], Stop<'_>>
+pub(crate) fn after_item(bytes: &[u8], levels: usize, at_break: Why) -> Result<&[u8], Stop<'_>>
     ensures { MatchResult result (λ rest. ItemLeads levels bytes.now rest.now)
         (λ stop. Stops levels at_break bytes.now stop.why stop.rest.now) }
 {
-    let (head, behind) = match behind_head(bytes) {
+    let (head, following) = match after_head(bytes) {
         Ok(found) => found,
         Err(stop) => return Err(stop),
     };
     match head {
-        Head::Unsigned(_) => Ok(behind),
-        Head::Negative(_) => Ok(behind),
-        Head::Simple(_) => Ok(behind),
-        Head::Float(_) => Ok(behind),
-        Head::Bytes(len) => behind_string(false, len, behind),
-        Head::Text(len) => behind_string(true, len, behind),
+        Head::Unsigned(_) => Ok(following),
+        Head::Negative(_) => Ok(following),
+        Head::Simple(_) => Ok(following),
+        Head::Float(_) => Ok(following),
+        Head::Bytes(len) => after_string(false, len, following),
+        Head::Text(len) => after_string(true, len, following),
         Head::Array(len) => match levels.checked_sub(1) {
             None => Err(too_deep(bytes)),
-            Some(inner) => behind_list(false, len, behind, inner),
+            Some(inner) => after_list(false, len, following, inner),
         },
         Head::Map(len) => match levels.checked_sub(1) {
             None => Err(too_deep(bytes)),
-            Some(inner) => behind_list(true, len, behind, inner),
+            Some(inner) => after_list(true, len, following, inner),
         },
         Head::Tag(_) => match levels.checked_sub(1) {
             None => Err(too_deep(bytes)),
-            Some(inner) => behind_item(behind, inner, Why::StrayBreak),
+            Some(inner) => after_item(following, inner, Why::StrayBreak),
         },
         Head::Break => Err(Stop {
             why: at_break,

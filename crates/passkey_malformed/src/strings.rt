@@ -4,13 +4,13 @@ ghost use Rattle.passkey_cbor.specs.Inside.{Content};
 ghost use Rattle.passkey_malformed.specs.Stops.{StringLeads, NoPiece, StopsInChunks, StopsInString};
 ghost use Rattle.std.specs.Prelude.{Some as Known};
 
-use crate::heads::{Stop, behind_head, cut_off};
+use crate::heads::{Stop, after_head, cut_off};
 use crate::why::Why;
 use passkey_cbor::Head;
 use std::str;
 
 /// Returns the bytes after the content of a string, or of a chunk, of this length.
-fn behind_piece(is_text: bool, len: u64, bytes: &[u8]) -> Result<&[u8], Stop<'_>>
+fn after_piece(is_text: bool, len: u64, bytes: &[u8]) -> Result<&[u8], Stop<'_>>
     ensures { MatchResult result (λ rest. StringLeads is_text (Known len) bytes.now rest.now)
         (λ stop. NoPiece is_text len bytes.now stop.why stop.rest.now) }
 {
@@ -29,18 +29,18 @@ fn behind_piece(is_text: bool, len: u64, bytes: &[u8]) -> Result<&[u8], Stop<'_>
 }
 
 /// Returns the bytes after the chunks of a string and their break.
-fn behind_chunks(is_text: bool, bytes: &[u8]) -> Result<&[u8], Stop<'_>>
+fn after_chunks(is_text: bool, bytes: &[u8]) -> Result<&[u8], Stop<'_>>
     ensures { MatchResult result (λ rest. StringLeads is_text Unknown bytes.now rest.now)
         (λ stop. StopsInChunks is_text bytes.now stop.why stop.rest.now) }
 {
     let mut here = bytes;
     loop {
-        let (head, behind) = match behind_head(here) {
+        let (head, following) = match after_head(here) {
             Ok(found) => found,
             Err(stop) => return Err(stop),
         };
         if let Head::Break = head {
-            return Ok(behind);
+            return Ok(following);
         }
         match head.chunk_len(is_text) {
             None => {
@@ -49,7 +49,7 @@ fn behind_chunks(is_text: bool, bytes: &[u8]) -> Result<&[u8], Stop<'_>>
                     rest: here,
                 });
             }
-            Some(len) => match behind_piece(is_text, len, behind) {
+            Some(len) => match after_piece(is_text, len, following) {
                 Ok(next) => here = next,
                 Err(stop) => return Err(stop),
             },
@@ -58,7 +58,7 @@ fn behind_chunks(is_text: bool, bytes: &[u8]) -> Result<&[u8], Stop<'_>>
 }
 
 /// Returns the bytes after a string whose head has this length.
-pub(crate) fn behind_string(
+pub(crate) fn after_string(
     is_text: bool,
     len: Option<u64>,
     bytes: &[u8],
@@ -67,7 +67,7 @@ pub(crate) fn behind_string(
         (λ stop. StopsInString is_text len bytes.now stop.why stop.rest.now) }
 {
     match len {
-        Some(len) => behind_piece(is_text, len, bytes),
-        None => behind_chunks(is_text, bytes),
+        Some(len) => after_piece(is_text, len, bytes),
+        None => after_chunks(is_text, bytes),
     }
 }

@@ -33,5 +33,5 @@ none_is_listed_if_none_fits (e ∷ es) i = none_from e es i (edited e i) refl (n
 
 -- ---- a repaired item, whose edits come after these
 
-abbrev pub behind : List Edit → Repaired → Repaired
-behind es r = record { item = r.item; edits = es ++ r.edits }
+abbrev pub following : List Edit → Repaired → Repaired
+following es r = record { item = r.item; edits = es ++ r.edits }

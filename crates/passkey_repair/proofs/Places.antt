@@ -1,6 +1,6 @@
 -- Members of a map, as values and as data items.
-use Rattle.passkey_cbor.proofs.Items.{members-pairs_of}
-use Rattle.passkey_cbor.proofs.Views.{item_of-Map}
+use Rattle.passkey_cbor.proofs.items.Items.{members-pairs_of}
+use Rattle.passkey_cbor.proofs.building.Views.{item_of-Map}
 use Rattle.passkey_cbor.specs.Item.{Item, text_string}
 use Rattle.passkey_cbor.specs.Same.{item_eq}
 use Rattle.passkey_cbor.specs.View.{item_of, pair_of}

@@ -1,11 +1,11 @@
 -- What a run returns, and what it writes.
 use Rattle.std.specs.Prelude.{◌≡◌, ℕ, List, [], ◌∷◌, ◌++◌, Option, Result, Ok, Err}
 use Rattle.std.specs.Io.KnownBytes.{Appends, Keeps}
-use Rattle.passkey_run.specs.Streams.{AppendsBeginning}
-use Rattle.passkey_run.specs.declared.kind.Kind.{Kind}
-use Rattle.passkey_run.specs.declared.fault.RunFault.{RunFault}
-use Rattle.passkey_run.specs.declared.fault.RunFault.TheVariants.{InputFailed, OutputFailed}
-use Rattle.passkey_run.specs.Rewrite.{Shown, HasNoOutput}
+use Rattle.passkey_rewrite.specs.Streams.{AppendsBeginning}
+use Rattle.passkey_rewrite.specs.declared.kind.Kind.{Kind}
+use Rattle.passkey_rewrite.specs.declared.fault.RunFault.{RunFault}
+use Rattle.passkey_rewrite.specs.declared.fault.RunFault.TheVariants.{InputFailed, OutputFailed}
+use Rattle.passkey_rewrite.specs.Rewrite.{Shown, HasNoOutput}
 
 -- The output: what the kind makes of the input, and a line feed.
 pub record IsOutput (kind : Kind) (input output : List ℕ) : Type 0 where

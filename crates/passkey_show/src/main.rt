@@ -6,7 +6,7 @@
 
 mod run;
 
-use passkey_run::{RunFault, kind_of, read_words};
+use passkey_rewrite::{RunFault, kind_of, read_words};
 use std::io::{Read, Write};
 use std::process::ExitCode;
 use std::rt::Env;

@@ -1,11 +1,11 @@
 //! One run: reads the input to its end, decodes it, encodes the result and writes the encoding.
 ghost use Rattle.std.specs.Prelude.{◌≡◌, ◌↔◌, IfOk, IfErr, OnOk, IfSome, IsNone, IsErrOf, string_bytes};
 ghost use Rattle.std.specs.Io.KnownBytes.{IsAtEnd};
-ghost use Rattle.passkey_run.specs.Rewrite.{HasNoOutput};
-ghost use Rattle.passkey_run.specs.Kind.{kind_named};
+ghost use Rattle.passkey_rewrite.specs.Rewrite.{HasNoOutput};
+ghost use Rattle.passkey_rewrite.specs.Kind.{kind_named};
 ghost use Rattle.passkey_show.specs.Shows.{IsOutput, Shows};
 
-use passkey_run::{Kind, RunFault, read_all, rewrite, write_all};
+use passkey_rewrite::{Kind, RunFault, read_all, rewrite, write_all};
 use std::alloc::Global;
 use std::io::{Read, Write};
 

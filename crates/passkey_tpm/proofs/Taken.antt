@@ -42,9 +42,9 @@ record Went {X Y : Type 0} (o : Result X Stop) (next : X → Result Y Stop) (y :
   was : o ≡ Ok x
   gives : next x ≡ Ok y
 
-went : {X Y : Type 0} (o : Result X Stop) (next : X → Result Y Stop) (y : Y) → (o >>= next) ≡ Ok y → Went o next y
-went (Err s) next y e = absurd cc
-went (Ok x) next y e = record { x = x; was = refl; gives = e }
+moves : {X Y : Type 0} (o : Result X Stop) (next : X → Result Y Stop) (y : Y) → (o >>= next) ≡ Ok y → Went o next y
+moves (Err s) next y e = absurd cc
+moves (Ok x) next y e = record { x = x; was = refl; gives = e }
 
 ok_is : {X : Type 0} {x y : X} → ◌≡◌ {A = Result X Stop} (Ok x) (Ok y) → x ≡ y
 ok_is e = cc
@@ -89,10 +89,10 @@ bytes_taken s n bytes front rest fits e =
     let parts : List ℕ × List ℕ = (take n bytes, drop n bytes) in
     let p = stopped_not (nat_lt (length bytes) n) s parts (front, rest) e in
     let same : take n bytes ≡ front = ap (λ (r : List ℕ × List ℕ). r.0) p.1 in
-    let behind : drop n bytes ≡ rest = ap (λ (r : List ℕ × List ℕ). r.1) p.1 in
+    let following : drop n bytes ≡ rest = ap (λ (r : List ℕ × List ℕ). r.1) p.1 in
     let short = p.0 in
     let long : n ≤ length bytes = grind (arith, nat_tests, cases_lt, short) in
-    let joined : front ++ rest ≡ bytes = rw (← same, ← behind) (take-append-drop n bytes) in
+    let joined : front ++ rest ≡ bytes = rw (← same, ← following) (take-append-drop n bytes) in
     let whole : IsBytes (front ++ rest) = subst (λ (t : List ℕ). IsBytes t) (sym joined) fits in record {
       taken = record { joined = joined; fits = rest_fits front rest whole };
       sized = ap length (sym same) ∙ length-take-le n bytes long;
@@ -120,11 +120,11 @@ u8_taken : (f : TpmField) (bytes : List ℕ) (n : ℕ) (rest : List ℕ) → IsB
     → Taken bytes (n ∷ []) rest
 unfolding u8_at
 u8_taken f bytes n rest fits e =
-    let w = went (bytes_at (cut_off f bytes) 1 bytes) _ (n, rest) e in
+    let w = moves (bytes_at (cut_off f bytes) 1 bytes) _ (n, rest) e in
     let t = bytes_taken (cut_off f bytes) 1 bytes w.x.0 w.x.1 fits w.was in
     let number : from_be_bytes w8 w.x.0 ≡ n = (pair_is w.gives).0 in
-    let behind : w.x.1 ≡ rest = (pair_is w.gives).1 in
-    subst (λ (r : List ℕ). Taken bytes (n ∷ []) r) behind
+    let following : w.x.1 ≡ rest = (pair_is w.gives).1 in
+    subst (λ (r : List ℕ). Taken bytes (n ∷ []) r) following
     (respelled (one_byte w.x.0 t.sized ∙ ap (λ (m : ℕ). m ∷ []) number) t.taken)
 
 -- an unsigned integer of a width that has n bytes, whose bytes are those that it was decoded from
@@ -134,11 +134,11 @@ number_taken : (f : TpmField) (w : Width) (n : ℕ)
     → number_at f w n bytes ≡ Ok (m, rest)
     → Taken bytes (to_be_bytes w m) rest
 number_taken f w n again bytes m rest fits e =
-    let r = went (bytes_at (cut_off f bytes) n bytes) _ (m, rest) e in
+    let r = moves (bytes_at (cut_off f bytes) n bytes) _ (m, rest) e in
     let t = bytes_taken (cut_off f bytes) n bytes r.x.0 r.x.1 fits r.was in
     let number : m ≡ from_be_bytes w r.x.0 = sym (pair_is r.gives).0 in
-    let behind : r.x.1 ≡ rest = (pair_is r.gives).1 in
-    subst (λ (l : List ℕ). Taken bytes (to_be_bytes w m) l) behind
+    let following : r.x.1 ≡ rest = (pair_is r.gives).1 in
+    subst (λ (l : List ℕ). Taken bytes (to_be_bytes w m) l) following
     (respelled (sym (again r.x.0 m t.sized t.fits number)) t.taken)
 
 u16_taken : (f : TpmField) (bytes : List ℕ) (n : ℕ) (rest : List ℕ) → IsBytes bytes → u16_at f bytes ≡ Ok (n, rest)
@@ -160,7 +160,7 @@ sized_taken : (f : TpmField) (bytes s rest : List ℕ) → IsBytes bytes → siz
     → Taken bytes (sized_written s) rest
 unfolding sized_at
 sized_taken f bytes s rest fits e =
-    let w = went (u16_at f bytes) _ (s, rest) e in
+    let w = moves (u16_at f bytes) _ (s, rest) e in
     let len = u16_taken f bytes w.x.0 w.x.1 fits w.was in
     let t = bytes_taken (cut_off f bytes) w.x.0 w.x.1 s rest len.fits w.gives in
     then_taken (respelled (ap (to_be_bytes w16) (sym t.sized)) len) t.taken
@@ -176,7 +176,7 @@ constant_taken : (f : TpmField) (k : ℕ) (bytes rest : List ℕ) → IsBytes by
     → Taken bytes (to_be_bytes w16 k) rest
 unfolding constant_at
 constant_taken f k bytes rest fits e =
-    let w = went (u16_at f bytes) _ rest e in
+    let w = moves (u16_at f bytes) _ rest e in
     let t = u16_taken f bytes w.x.0 w.x.1 fits w.was in
     let p = passed (w.x.0 == k) _ w.x.1 rest w.gives in
     subst (λ (r : List ℕ). Taken bytes (to_be_bytes w16 k) r) p.1
@@ -186,7 +186,7 @@ wide_constant_taken : (f : TpmField) (k : ℕ) (bytes rest : List ℕ) → IsByt
     → Taken bytes (to_be_bytes w32 k) rest
 unfolding wide_constant_at
 wide_constant_taken f k bytes rest fits e =
-    let w = went (u32_at f bytes) _ rest e in
+    let w = moves (u32_at f bytes) _ rest e in
     let t = u32_taken f bytes w.x.0 w.x.1 fits w.was in
     let p = passed (w.x.0 == k) _ w.x.1 rest w.gives in
     subst (λ (r : List ℕ). Taken bytes (to_be_bytes w32 k) r) p.1
@@ -196,7 +196,7 @@ header_taken : (bytes rest : List ℕ) → IsBytes bytes → header_at bytes ≡
     → Taken bytes (to_be_bytes w32 magic ++ to_be_bytes w16 certify) rest
 unfolding header_at
 header_taken bytes rest fits e =
-    let w = went (wide_constant_at field.Magic magic bytes) _ rest e in
+    let w = moves (wide_constant_at field.Magic magic bytes) _ rest e in
     let t = wide_constant_taken field.Magic magic bytes w.x fits w.was in
     then_taken t (constant_taken field.AttestType certify w.x rest t.fits w.gives)
 
@@ -204,19 +204,19 @@ clock_info_taken : (bytes : List ℕ) (c : ClockInfo) (rest : List ℕ) → IsBy
     → clock_info_at bytes ≡ Ok (c, rest) → Taken bytes (clock_info_written c) rest
 unfolding clock_info_at
 clock_info_taken bytes c rest fits e =
-    let w1 = went (u64_at field.Clock bytes) _ (c, rest) e in
+    let w1 = moves (u64_at field.Clock bytes) _ (c, rest) e in
     let t1 = u64_taken field.Clock bytes w1.x.0 w1.x.1 fits w1.was in
-    let w2 = went (u32_at field.ResetCount w1.x.1) _ (c, rest) w1.gives in
+    let w2 = moves (u32_at field.ResetCount w1.x.1) _ (c, rest) w1.gives in
     let t2 = u32_taken field.ResetCount w1.x.1 w2.x.0 w2.x.1 t1.fits w2.was in
-    let w3 = went (u32_at field.RestartCount w2.x.1) _ (c, rest) w2.gives in
+    let w3 = moves (u32_at field.RestartCount w2.x.1) _ (c, rest) w2.gives in
     let t3 = u32_taken field.RestartCount w2.x.1 w3.x.0 w3.x.1 t2.fits w3.was in
-    let w4 = went (u8_at field.Safe w3.x.1) _ (c, rest) w3.gives in
+    let w4 = moves (u8_at field.Safe w3.x.1) _ (c, rest) w3.gives in
     let t4 = u8_taken field.Safe w3.x.1 w4.x.0 w4.x.1 t3.fits w4.was in
     let made : ClockInfo = record { clock = w1.x.0; reset_count = w2.x.0; restart_count = w3.x.0; safe = w4.x.0 } in
     let ends = pair_is {x = made} {y = c} {r = w4.x.1} {s = rest} w4.gives in
     let same : made ≡ c = ends.0 in
-    let behind : w4.x.1 ≡ rest = ends.1 in
-    subst (λ (r : List ℕ). Taken bytes (clock_info_written c) r) behind
+    let following : w4.x.1 ≡ rest = ends.1 in
+    subst (λ (r : List ℕ). Taken bytes (clock_info_written c) r) following
     (subst (λ (m : ClockInfo). Taken bytes (clock_info_written m) w4.x.1) {x = made} same
     (then_taken (then_taken (then_taken t1 t2) t3) t4))
 
@@ -224,19 +224,19 @@ cert_info_taken : (bytes : List ℕ) (c : CertInfoParts) (rest : List ℕ) → I
     → cert_info_at bytes ≡ Ok (c, rest) → Taken bytes (cert_info_written c) rest
 unfolding cert_info_at
 cert_info_taken bytes c rest fits e =
-    let w0 = went (header_at bytes) _ (c, rest) e in
+    let w0 = moves (header_at bytes) _ (c, rest) e in
     let t0 = header_taken bytes w0.x fits w0.was in
-    let w1 = went (sized_at field.QualifiedSigner w0.x) _ (c, rest) w0.gives in
+    let w1 = moves (sized_at field.QualifiedSigner w0.x) _ (c, rest) w0.gives in
     let t1 = sized_taken field.QualifiedSigner w0.x w1.x.0 w1.x.1 t0.fits w1.was in
-    let w2 = went (sized_at field.ExtraData w1.x.1) _ (c, rest) w1.gives in
+    let w2 = moves (sized_at field.ExtraData w1.x.1) _ (c, rest) w1.gives in
     let t2 = sized_taken field.ExtraData w1.x.1 w2.x.0 w2.x.1 t1.fits w2.was in
-    let w3 = went (clock_info_at w2.x.1) _ (c, rest) w2.gives in
+    let w3 = moves (clock_info_at w2.x.1) _ (c, rest) w2.gives in
     let t3 = clock_info_taken w2.x.1 w3.x.0 w3.x.1 t2.fits w3.was in
-    let w4 = went (u64_at field.FirmwareVersion w3.x.1) _ (c, rest) w3.gives in
+    let w4 = moves (u64_at field.FirmwareVersion w3.x.1) _ (c, rest) w3.gives in
     let t4 = u64_taken field.FirmwareVersion w3.x.1 w4.x.0 w4.x.1 t3.fits w4.was in
-    let w5 = went (sized_at field.Name w4.x.1) _ (c, rest) w4.gives in
+    let w5 = moves (sized_at field.Name w4.x.1) _ (c, rest) w4.gives in
     let t5 = sized_taken field.Name w4.x.1 w5.x.0 w5.x.1 t4.fits w5.was in
-    let w6 = went (sized_at field.QualifiedName w5.x.1) _ (c, rest) w5.gives in
+    let w6 = moves (sized_at field.QualifiedName w5.x.1) _ (c, rest) w5.gives in
     let t6 = sized_taken field.QualifiedName w5.x.1 w6.x.0 w6.x.1 t5.fits w6.was in
     let made : CertInfoParts = record {
       qualified_signer = w1.x.0;
@@ -248,8 +248,8 @@ cert_info_taken bytes c rest fits e =
     } in
     let ends = pair_is {x = made} {y = c} {r = w6.x.1} {s = rest} w6.gives in
     let same : made ≡ c = ends.0 in
-    let behind : w6.x.1 ≡ rest = ends.1 in
-    subst (λ (r : List ℕ). Taken bytes (cert_info_written c) r) behind
+    let following : w6.x.1 ≡ rest = ends.1 in
+    subst (λ (r : List ℕ). Taken bytes (cert_info_written c) r) following
     (subst (λ (m : CertInfoParts). Taken bytes (cert_info_written m) w6.x.1) {x = made} same
     (then_taken (then_taken (then_taken (then_taken (then_taken (then_taken t0 t1) t2) t3) t4) t5) t6))
 
@@ -267,7 +267,7 @@ whole_taken bytes written r x e t =
 
 pub cert_info_same : CertInfoIsWrittenBack
 cert_info_same bytes c fits e =
-    let w = went (cert_info_at bytes) _ c (was_ok (cert_info_read bytes) c e) in
+    let w = moves (cert_info_at bytes) _ c (was_ok (cert_info_read bytes) c e) in
     let t = cert_info_taken bytes w.x.0 w.x.1 fits w.was in
     let all = whole_taken bytes (cert_info_written w.x.0) w.x c w.gives t in
     ap cert_info_written (sym all.1) ∙ all.0
@@ -291,11 +291,11 @@ kept_taken : {X : Type 0} (f : TpmField) (make : ℕ → X) (number : X → ℕ)
     → ◌>>=◌ {Y = X × List ℕ} (u16_at f bytes) (λ id. Ok (make id.0, id.1)) ≡ Ok (x, rest)
     → Taken bytes (to_be_bytes w16 (number x)) rest
 kept_taken f make number same bytes x rest fits e =
-    let w = went (u16_at f bytes) _ (x, rest) e in
+    let w = moves (u16_at f bytes) _ (x, rest) e in
     let t = u16_taken f bytes w.x.0 w.x.1 fits w.was in
     let made : make w.x.0 ≡ x = (pair_is w.gives).0 in
-    let behind : w.x.1 ≡ rest = (pair_is w.gives).1 in
-    subst (λ (r : List ℕ). Taken bytes (to_be_bytes w16 (number x)) r) behind
+    let following : w.x.1 ≡ rest = (pair_is w.gives).1 in
+    subst (λ (r : List ℕ). Taken bytes (to_be_bytes w16 (number x)) r) following
     (respelled (ap (to_be_bytes w16) (sym (same w.x.0) ∙ ap number made)) t)
 
 hash_taken : (f : TpmField) (bytes : List ℕ) (h : HashAlgorithm) (rest : List ℕ) → IsBytes bytes
@@ -318,7 +318,7 @@ type_taken : (bytes : List ℕ) (k : KeyType) (rest : List ℕ) → IsBytes byte
     → Taken bytes (to_be_bytes w16 (type_id k)) rest
 unfolding type_at
 type_taken bytes k rest fits e =
-    let w = went (u16_at field.KeyType bytes) _ (k, rest) e in
+    let w = moves (u16_at field.KeyType bytes) _ (k, rest) e in
     let t = u16_taken field.KeyType bytes w.x.0 w.x.1 fits w.was in
     elim (chosen w.x.0 0x0001 _ _ (k, rest) w.gives) [
       | inl p ↦ typed 0x0001 kind.Rsa refl t p.0 p.1
@@ -333,8 +333,8 @@ type_taken bytes k rest fits e =
         → Taken bytes (to_be_bytes w16 (type_id k)) rest
     typed n this is t same e =
         let made : this ≡ k = (pair_is e).0 in
-        let behind = (pair_is e).1 in
-        subst (λ (r : List ℕ). Taken bytes (to_be_bytes w16 (type_id k)) r) behind
+        let following = (pair_is e).1 in
+        subst (λ (r : List ℕ). Taken bytes (to_be_bytes w16 (type_id k)) r) following
         (respelled (ap (to_be_bytes w16) (same ∙ sym is ∙ ap type_id made)) t)
 
 -- the scheme's identifier, and its hash algorithm
@@ -343,11 +343,11 @@ hashed_taken : {S : Type 0} {bytes mid : List ℕ} {id n : ℕ} (f : TpmField) (
     → Taken bytes (to_be_bytes w16 id) mid → id ≡ n → (s : S) (rest : List ℕ) → hashed f make mid ≡ Ok (s, rest)
     → Taken bytes (written s) rest
 hashed_taken {bytes = bytes} {mid = mid} f make written spelled t same s rest e =
-    let w = went (hash_at f mid) _ (s, rest) e in
+    let w = moves (hash_at f mid) _ (s, rest) e in
     let u = hash_taken f mid w.x.0 w.x.1 t.fits w.was in
     let made : make w.x.0 ≡ s = (pair_is w.gives).0 in
-    let behind : w.x.1 ≡ rest = (pair_is w.gives).1 in
-    subst (λ (r : List ℕ). Taken bytes (written s) r) behind
+    let following : w.x.1 ≡ rest = (pair_is w.gives).1 in
+    subst (λ (r : List ℕ). Taken bytes (written s) r) following
     (respelled (sym (spelled w.x.0) ∙ ap written made) (then_taken (respelled (ap (to_be_bytes w16) same) t) u))
 
 -- the scheme's identifier alone
@@ -356,15 +356,15 @@ alone_taken : {S : Type 0} {bytes mid : List ℕ} {id n : ℕ} (this : S) (writt
     → ◌≡◌ {A = Result (S × List ℕ) Stop} (Ok (this, mid)) (Ok (s, rest)) → Taken bytes (written s) rest
 alone_taken {S = S} {bytes = bytes} {mid = mid} this written spelled t same s rest e =
     let made : this ≡ s = (pair_is e).0 in
-    let behind : mid ≡ rest = (pair_is e).1 in
-    subst (λ (r : List ℕ). Taken bytes (written s) r) behind
+    let following : mid ≡ rest = (pair_is e).1 in
+    subst (λ (r : List ℕ). Taken bytes (written s) r) following
     (respelled (ap (to_be_bytes w16) same ∙ sym spelled ∙ ap written made) t)
 
 rsa_scheme_taken : (bytes : List ℕ) (s : RsaScheme) (rest : List ℕ) → IsBytes bytes
     → rsa_scheme_at bytes ≡ Ok (s, rest) → Taken bytes (rsa_scheme_written s) rest
 unfolding rsa_scheme_at
 rsa_scheme_taken bytes s rest fits e =
-    let w = went (u16_at field.Scheme bytes) _ (s, rest) e in
+    let w = moves (u16_at field.Scheme bytes) _ (s, rest) e in
     let t = u16_taken field.Scheme bytes w.x.0 w.x.1 fits w.was in
     let id = w.x.0 in
     let mid = w.x.1 in
@@ -389,13 +389,13 @@ ecdaa_taken : (bytes : List ℕ) (id : ℕ) (mid : List ℕ) → Taken bytes (to
     → (s : EccScheme) (rest : List ℕ) → ecdaa_at mid ≡ Ok (s, rest) → Taken bytes (ecc_scheme_written s) rest
 unfolding ecdaa_at
 ecdaa_taken bytes id mid t same s rest e =
-    let w = went (hash_at field.SchemeHash mid) _ (s, rest) e in
+    let w = moves (hash_at field.SchemeHash mid) _ (s, rest) e in
     let u = hash_taken field.SchemeHash mid w.x.0 w.x.1 t.fits w.was in
-    let v = went (u16_at field.SchemeCount w.x.1) _ (s, rest) w.gives in
+    let v = moves (u16_at field.SchemeCount w.x.1) _ (s, rest) w.gives in
     let c = u16_taken field.SchemeCount w.x.1 v.x.0 v.x.1 u.fits v.was in
     let made : ecc_scheme.Ecdaa w.x.0 v.x.0 ≡ s = (pair_is v.gives).0 in
-    let behind : v.x.1 ≡ rest = (pair_is v.gives).1 in
-    subst (λ (r : List ℕ). Taken bytes (ecc_scheme_written s) r) behind
+    let following : v.x.1 ≡ rest = (pair_is v.gives).1 in
+    subst (λ (r : List ℕ). Taken bytes (ecc_scheme_written s) r) following
     (respelled (ap ecc_scheme_written made)
     (then_taken (then_taken (respelled (ap (to_be_bytes w16) same) t) u) c))
 
@@ -403,7 +403,7 @@ ecc_scheme_taken : (bytes : List ℕ) (s : EccScheme) (rest : List ℕ) → IsBy
     → ecc_scheme_at bytes ≡ Ok (s, rest) → Taken bytes (ecc_scheme_written s) rest
 unfolding ecc_scheme_at
 ecc_scheme_taken bytes s rest fits e =
-    let w = went (u16_at field.Scheme bytes) _ (s, rest) e in
+    let w = moves (u16_at field.Scheme bytes) _ (s, rest) e in
     let t = u16_taken field.Scheme bytes w.x.0 w.x.1 fits w.was in
     let id = w.x.0 in
     let mid = w.x.1 in
@@ -434,7 +434,7 @@ kdf_taken : (bytes : List ℕ) (s : KdfScheme) (rest : List ℕ) → IsBytes byt
     → Taken bytes (kdf_written s) rest
 unfolding kdf_at
 kdf_taken bytes s rest fits e =
-    let w = went (u16_at field.Kdf bytes) _ (s, rest) e in
+    let w = moves (u16_at field.Kdf bytes) _ (s, rest) e in
     let t = u16_taken field.Kdf bytes w.x.0 w.x.1 fits w.was in
     let id = w.x.0 in
     let mid = w.x.1 in
@@ -459,21 +459,21 @@ rsa_taken : (bytes : List ℕ) (k : RsaParts) (rest : List ℕ) → IsBytes byte
     → Taken bytes (rsa_written k) rest
 unfolding rsa_at
 rsa_taken bytes k rest fits e =
-    let w0 = went (constant_at field.Symmetric 0x0010 bytes) _ (k, rest) e in
+    let w0 = moves (constant_at field.Symmetric 0x0010 bytes) _ (k, rest) e in
     let t0 = constant_taken field.Symmetric 0x0010 bytes w0.x fits w0.was in
-    let w1 = went (rsa_scheme_at w0.x) _ (k, rest) w0.gives in
+    let w1 = moves (rsa_scheme_at w0.x) _ (k, rest) w0.gives in
     let t1 = rsa_scheme_taken w0.x w1.x.0 w1.x.1 t0.fits w1.was in
-    let w2 = went (u16_at field.KeyBits w1.x.1) _ (k, rest) w1.gives in
+    let w2 = moves (u16_at field.KeyBits w1.x.1) _ (k, rest) w1.gives in
     let t2 = u16_taken field.KeyBits w1.x.1 w2.x.0 w2.x.1 t1.fits w2.was in
-    let w3 = went (u32_at field.Exponent w2.x.1) _ (k, rest) w2.gives in
+    let w3 = moves (u32_at field.Exponent w2.x.1) _ (k, rest) w2.gives in
     let t3 = u32_taken field.Exponent w2.x.1 w3.x.0 w3.x.1 t2.fits w3.was in
-    let w4 = went (sized_at field.Modulus w3.x.1) _ (k, rest) w3.gives in
+    let w4 = moves (sized_at field.Modulus w3.x.1) _ (k, rest) w3.gives in
     let t4 = sized_taken field.Modulus w3.x.1 w4.x.0 w4.x.1 t3.fits w4.was in
     let made : RsaParts = record { scheme = w1.x.0; key_bits = w2.x.0; exponent = w3.x.0; modulus = w4.x.0 } in
     let ends = pair_is {x = made} {y = k} {r = w4.x.1} {s = rest} w4.gives in
     let same : made ≡ k = ends.0 in
-    let behind : w4.x.1 ≡ rest = ends.1 in
-    subst (λ (r : List ℕ). Taken bytes (rsa_written k) r) behind
+    let following : w4.x.1 ≡ rest = ends.1 in
+    subst (λ (r : List ℕ). Taken bytes (rsa_written k) r) following
     (subst (λ (m : RsaParts). Taken bytes (rsa_written m) w4.x.1) {x = made} same
     (then_taken (then_taken (then_taken (then_taken t0 t1) t2) t3) t4))
 
@@ -481,23 +481,23 @@ ecc_taken : (bytes : List ℕ) (k : EccParts) (rest : List ℕ) → IsBytes byte
     → Taken bytes (ecc_written k) rest
 unfolding ecc_at
 ecc_taken bytes k rest fits e =
-    let w0 = went (constant_at field.Symmetric 0x0010 bytes) _ (k, rest) e in
+    let w0 = moves (constant_at field.Symmetric 0x0010 bytes) _ (k, rest) e in
     let t0 = constant_taken field.Symmetric 0x0010 bytes w0.x fits w0.was in
-    let w1 = went (ecc_scheme_at w0.x) _ (k, rest) w0.gives in
+    let w1 = moves (ecc_scheme_at w0.x) _ (k, rest) w0.gives in
     let t1 = ecc_scheme_taken w0.x w1.x.0 w1.x.1 t0.fits w1.was in
-    let w2 = went (curve_at w1.x.1) _ (k, rest) w1.gives in
+    let w2 = moves (curve_at w1.x.1) _ (k, rest) w1.gives in
     let t2 = curve_taken w1.x.1 w2.x.0 w2.x.1 t1.fits w2.was in
-    let w3 = went (kdf_at w2.x.1) _ (k, rest) w2.gives in
+    let w3 = moves (kdf_at w2.x.1) _ (k, rest) w2.gives in
     let t3 = kdf_taken w2.x.1 w3.x.0 w3.x.1 t2.fits w3.was in
-    let w4 = went (sized_at field.X w3.x.1) _ (k, rest) w3.gives in
+    let w4 = moves (sized_at field.X w3.x.1) _ (k, rest) w3.gives in
     let t4 = sized_taken field.X w3.x.1 w4.x.0 w4.x.1 t3.fits w4.was in
-    let w5 = went (sized_at field.Y w4.x.1) _ (k, rest) w4.gives in
+    let w5 = moves (sized_at field.Y w4.x.1) _ (k, rest) w4.gives in
     let t5 = sized_taken field.Y w4.x.1 w5.x.0 w5.x.1 t4.fits w5.was in
     let made : EccParts = record { scheme = w1.x.0; curve = w2.x.0; kdf = w3.x.0; x = w4.x.0; y = w5.x.0 } in
     let ends = pair_is {x = made} {y = k} {r = w5.x.1} {s = rest} w5.gives in
     let same : made ≡ k = ends.0 in
-    let behind : w5.x.1 ≡ rest = ends.1 in
-    subst (λ (r : List ℕ). Taken bytes (ecc_written k) r) behind
+    let following : w5.x.1 ≡ rest = ends.1 in
+    subst (λ (r : List ℕ). Taken bytes (ecc_written k) r) following
     (subst (λ (m : EccParts). Taken bytes (ecc_written m) w5.x.1) {x = made} same
     (then_taken (then_taken (then_taken (then_taken (then_taken t0 t1) t2) t3) t4) t5))
 
@@ -509,19 +509,19 @@ record KeyTaken (bytes : List ℕ) (type : KeyType) (k : KeyParts) (rest : List 
 key_taken : (type : KeyType) (bytes : List ℕ) (k : KeyParts) (rest : List ℕ) → IsBytes bytes
     → key_at type bytes ≡ Ok (k, rest) → KeyTaken bytes type k rest
 key_taken kind.Rsa bytes k rest fits e =
-    let w = went (rsa_at bytes) _ (k, rest) e in
+    let w = moves (rsa_at bytes) _ (k, rest) e in
     let t = rsa_taken bytes w.x.0 w.x.1 fits w.was in
     let made : rsa w.x.0 ≡ k = (pair_is w.gives).0 in
-    let behind : w.x.1 ≡ rest = (pair_is w.gives).1 in record {
-      taken = subst (λ (r : List ℕ). Taken bytes (key_written k) r) behind (respelled (ap key_written made) t);
+    let following : w.x.1 ≡ rest = (pair_is w.gives).1 in record {
+      taken = subst (λ (r : List ℕ). Taken bytes (key_written k) r) following (respelled (ap key_written made) t);
       type_is = ap key_type made;
     }
 key_taken kind.Ecc bytes k rest fits e =
-    let w = went (ecc_at bytes) _ (k, rest) e in
+    let w = moves (ecc_at bytes) _ (k, rest) e in
     let t = ecc_taken bytes w.x.0 w.x.1 fits w.was in
     let made : ecc w.x.0 ≡ k = (pair_is w.gives).0 in
-    let behind : w.x.1 ≡ rest = (pair_is w.gives).1 in record {
-      taken = subst (λ (r : List ℕ). Taken bytes (key_written k) r) behind (respelled (ap key_written made) t);
+    let following : w.x.1 ≡ rest = (pair_is w.gives).1 in record {
+      taken = subst (λ (r : List ℕ). Taken bytes (key_written k) r) following (respelled (ap key_written made) t);
       type_is = ap key_type made;
     }
 
@@ -529,29 +529,29 @@ pub_area_taken : (bytes : List ℕ) (a : PubAreaParts) (rest : List ℕ) → IsB
     → pub_area_at bytes ≡ Ok (a, rest) → Taken bytes (pub_area_written a) rest
 unfolding pub_area_at
 pub_area_taken bytes a rest fits e =
-    let w0 = went (type_at bytes) _ (a, rest) e in
+    let w0 = moves (type_at bytes) _ (a, rest) e in
     let t0 = type_taken bytes w0.x.0 w0.x.1 fits w0.was in
-    let w1 = went (hash_at field.NameAlg w0.x.1) _ (a, rest) w0.gives in
+    let w1 = moves (hash_at field.NameAlg w0.x.1) _ (a, rest) w0.gives in
     let t1 = hash_taken field.NameAlg w0.x.1 w1.x.0 w1.x.1 t0.fits w1.was in
-    let w2 = went (u32_at field.ObjectAttributes w1.x.1) _ (a, rest) w1.gives in
+    let w2 = moves (u32_at field.ObjectAttributes w1.x.1) _ (a, rest) w1.gives in
     let t2 = u32_taken field.ObjectAttributes w1.x.1 w2.x.0 w2.x.1 t1.fits w2.was in
-    let w3 = went (sized_at field.AuthPolicy w2.x.1) _ (a, rest) w2.gives in
+    let w3 = moves (sized_at field.AuthPolicy w2.x.1) _ (a, rest) w2.gives in
     let t3 = sized_taken field.AuthPolicy w2.x.1 w3.x.0 w3.x.1 t2.fits w3.was in
-    let w4 = went (key_at w0.x.0 w3.x.1) _ (a, rest) w3.gives in
+    let w4 = moves (key_at w0.x.0 w3.x.1) _ (a, rest) w3.gives in
     let t4 = key_taken w0.x.0 w3.x.1 w4.x.0 w4.x.1 t3.fits w4.was in
     let made : PubAreaParts =
     record { name_alg = w1.x.0; object_attributes = w2.x.0; auth_policy = w3.x.0; key = w4.x.0 } in
     let ends = pair_is {x = made} {y = a} {r = w4.x.1} {s = rest} w4.gives in
     let same : made ≡ a = ends.0 in
-    let behind : w4.x.1 ≡ rest = ends.1 in
-    subst (λ (r : List ℕ). Taken bytes (pub_area_written a) r) behind
+    let following : w4.x.1 ≡ rest = ends.1 in
+    subst (λ (r : List ℕ). Taken bytes (pub_area_written a) r) following
     (subst (λ (m : PubAreaParts). Taken bytes (pub_area_written m) w4.x.1) {x = made} same
     (then_taken (then_taken (then_taken (then_taken (respelled (ap (to_be_bytes w16) t4.type_is) t0) t1) t2) t3)
     t4.taken))
 
 pub pub_area_same : PubAreaIsWrittenBack
 pub_area_same bytes a fits e =
-    let w = went (pub_area_at bytes) _ a (was_ok (pub_area_read bytes) a e) in
+    let w = moves (pub_area_at bytes) _ a (was_ok (pub_area_read bytes) a e) in
     let t = pub_area_taken bytes w.x.0 w.x.1 fits w.was in
     let all = whole_taken bytes (pub_area_written w.x.0) w.x a w.gives t in
     ap pub_area_written (sym all.1) ∙ all.0

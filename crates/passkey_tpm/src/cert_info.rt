@@ -1,6 +1,8 @@
 //! `certInfo` of a tpm attestation statement.
 ghost use Rattle.std.specs.Prelude.{◌≡◌, ◌≢◌, ◌≤◌, ◌^◌, ◌++◌, ◌⊎◌, length, nat_lt, not, is_some, Err, option_map, IfOk, OnOk};
-ghost use Rattle.passkey_tpm.specs.CertInfo.{cert_info_parts, header_at, clock_info_at, cert_info_at, cert_info_read, cert_info_in, cert_info_refusal, clock_info_written, cert_info_written, IsClockInfo, IsCertInfo};
+ghost use Rattle.passkey_tpm.specs.CertInfo.{cert_info_parts, header_at, clock_info_at, cert_info_at, cert_info_read};
+ghost use Rattle.passkey_tpm.specs.CertInfo.{cert_info_in, cert_info_refusal, clock_info_written, cert_info_written, IsClockInfo};
+ghost use Rattle.passkey_tpm.specs.CertInfo.{IsCertInfo};
 ghost use Rattle.passkey_tpm.specs.Parts.{begun};
 ghost use Rattle.passkey_tpm.specs.declared.encode_error.EncodeError.TheVariants.{TooLong};
 

@@ -1,6 +1,7 @@
 //! Parts at the beginning of bytes, big-endian, and the same parts encoded.
 ghost use Rattle.std.specs.Prelude.{◌≡◌, ◌<◌, ◌≤◌, ◌^◌, ◌++◌, length, Err, OnOk};
-ghost use Rattle.passkey_tpm.specs.Parts.{begun, bytes_at, bytes_follow, constant_at, cut_off, refused, u8_at, u16_at, u32_at, u64_at, sized_at, sized_written, wide_constant_at};
+ghost use Rattle.passkey_tpm.specs.Parts.{begun, bytes_at, bytes_follow, constant_at, cut_off, refused, u8_at, u16_at, u32_at};
+ghost use Rattle.passkey_tpm.specs.Parts.{u64_at, sized_at, sized_written, wide_constant_at};
 ghost use Rattle.passkey_tpm.specs.declared.encode_error.EncodeError.TheVariants.{TooLong};
 
 use crate::EncodeError;

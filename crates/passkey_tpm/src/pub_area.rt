@@ -1,7 +1,8 @@
 //! `pubArea` of a tpm attestation statement.
 ghost use Rattle.std.specs.Prelude.{◌≡◌, ◌≤◌, ◌^◌, ◌⊎◌, length, not, is_some, Err, option_map, IfOk, OnOk};
 ghost use Rattle.passkey_tpm.specs.Parts.{begun};
-ghost use Rattle.passkey_tpm.specs.PubArea.{pub_area_parts, pub_area_at, pub_area_read, pub_area_in, pub_area_refusal, pub_area_written, key_parts, IsPubArea, IsLongKey};
+ghost use Rattle.passkey_tpm.specs.PubArea.{pub_area_parts, pub_area_at, pub_area_read, pub_area_in, pub_area_refusal};
+ghost use Rattle.passkey_tpm.specs.PubArea.{pub_area_written, key_parts, IsPubArea, IsLongKey};
 ghost use Rattle.passkey_tpm.specs.declared.encode_error.EncodeError.TheVariants.{TooLong};
 
 use crate::hash_algorithm::read_hash;

@@ -1,7 +1,8 @@
 //! Public keys: the parameters and the unique part of `pubArea`.
 ghost use Rattle.std.specs.Prelude.{◌≡◌, ◌++◌, Err, OnOk};
 ghost use Rattle.passkey_tpm.specs.Parts.{begun};
-ghost use Rattle.passkey_tpm.specs.PubArea.{rsa_parts, ecc_parts, key_parts, curve_at, type_at, rsa_at, ecc_at, key_at, rsa_written, ecc_written, key_type, key_written, IsRsa, IsEcc, IsKey, IsLongKey};
+ghost use Rattle.passkey_tpm.specs.PubArea.{rsa_parts, ecc_parts, key_parts, curve_at, type_at, rsa_at, ecc_at, key_at};
+ghost use Rattle.passkey_tpm.specs.PubArea.{rsa_written, ecc_written, key_type, key_written, IsRsa, IsEcc, IsKey, IsLongKey};
 ghost use Rattle.passkey_tpm.specs.PubArea.KeyParts.{rsa, ecc};
 ghost use Rattle.passkey_tpm.specs.declared.encode_error.EncodeError.TheVariants.{TooLong};
 

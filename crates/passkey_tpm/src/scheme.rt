@@ -3,7 +3,8 @@ ghost use Rattle.std.specs.Prelude.{◌≡◌, ◌++◌, OnOk};
 ghost use Rattle.std.specs.Int.{w16, to_be_bytes};
 ghost use Rattle.passkey_tpm.specs.HashAlgorithm.{IsHash};
 ghost use Rattle.passkey_tpm.specs.Parts.{begun};
-ghost use Rattle.passkey_tpm.specs.Scheme.{rsa_scheme_at, ecdaa_at, ecc_scheme_at, kdf_at, rsa_scheme_written, ecc_scheme_written, kdf_written, hash_written, IsRsaScheme, IsEccScheme, IsKdf};
+ghost use Rattle.passkey_tpm.specs.Scheme.{rsa_scheme_at, ecdaa_at, ecc_scheme_at, kdf_at, rsa_scheme_written};
+ghost use Rattle.passkey_tpm.specs.Scheme.{ecc_scheme_written, kdf_written, hash_written, IsRsaScheme, IsEccScheme, IsKdf};
 
 use crate::HashAlgorithm;
 use crate::hash_algorithm::read_hash;

@@ -17,6 +17,7 @@ pub use passkey_bytes::{
 };
 pub use passkey_cbor as cbor;
 pub use passkey_cbor_text::diagnose as diagnose;
+pub use passkey_cbor_text::values as values;
 pub use passkey_stored::{CredentialExtensions, Passkey, PasskeyBuilder, StoredHmacSecret};
 pub use passkey_view as view;
 pub use rand_core::Rng;

@@ -5,12 +5,12 @@ use Rattle.passkey_cbor.specs.HeadReading.{head_at}
 use Rattle.passkey_cbor.specs.HeadEncoding.{IsEncodingOfHead}
 use Rattle.passkey_cbor.specs.EncodedAt.{Lies, IsEncodedAt}
 use Rattle.passkey_cbor.specs.declared.head.Head.{Head}
-use Rattle.passkey_cbor.proofs.Binds.{some_is}
-use Rattle.passkey_cbor.proofs.EncodedFrom.{only_one, stands_front}
-use Rattle.passkey_cbor.proofs.HeadAgain.{head_again}
+use Rattle.passkey_cbor.proofs.items.Binds.{some_is}
+use Rattle.passkey_cbor.proofs.items.EncodedFrom.{only_one, stands_front}
+use Rattle.passkey_cbor.proofs.heads.HeadAgain.{head_again}
 use Rattle.passkey_view.specs.declared.data_view.AttestedView.{AttestedView}
 use Rattle.passkey_view.specs.declared.item_view.ItemView.{ItemView}
-use Rattle.passkey_view.specs.DataView.{IsMapAt, IsAttestedAt, IsWhere, behind}
+use Rattle.passkey_view.specs.DataView.{IsMapAt, IsAttestedAt, IsWhere, following}
 use Rattle.passkey_view.specs.ItemView.{IsViewOf, HasItemAt}
 
 head_there : (h : Head) (bytes : List ℕ) (from to : ℕ) → Lies (IsEncodingOfHead h) bytes from to
@@ -43,11 +43,11 @@ same_parts bytes a b p q =
     same_end bytes (55 + a.credential_id_len) a.public_key b.public_key p.key.here
     (subst (λ (n : ℕ). HasItemAt bytes (55 + n) b.public_key) len q.key.here)
 
-pub same_behind : (bytes : List ℕ) (b : Bool) (one other : Option AttestedView) → IsWhere b (IsAttestedAt bytes) one
-    → IsWhere b (IsAttestedAt bytes) other → behind one ≡ behind other
-same_behind bytes true (Some a) (Some b) p q = same_parts bytes a b p q
-same_behind bytes true (Some a) None p q = absurd q
-same_behind bytes true None other p q = absurd p
-same_behind bytes false (Some a) other p q = absurd p
-same_behind bytes false None (Some b) p q = absurd q
-same_behind bytes false None None p q = refl
+pub same_after : (bytes : List ℕ) (b : Bool) (one other : Option AttestedView) → IsWhere b (IsAttestedAt bytes) one
+    → IsWhere b (IsAttestedAt bytes) other → following one ≡ following other
+same_after bytes true (Some a) (Some b) p q = same_parts bytes a b p q
+same_after bytes true (Some a) None p q = absurd q
+same_after bytes true None other p q = absurd p
+same_after bytes false (Some a) other p q = absurd p
+same_after bytes false None (Some b) p q = absurd q
+same_after bytes false None None p q = refl

@@ -6,7 +6,7 @@ use Rattle.passkey_cbor.specs.Item.{Item}
 use Rattle.passkey_cbor.specs.Languages.{Language}
 use Rattle.passkey_cbor.specs.LeadingItem.{IsLeadingItem, max_depth}
 use Rattle.passkey_cbor.specs.Inside.{Within, Inside}
-use Rattle.passkey_cbor.proofs.EncodedFrom.{front_long, front_stands}
+use Rattle.passkey_cbor.proofs.items.EncodedFrom.{front_long, front_stands}
 use Rattle.passkey_cbor.specs.HeadEncoding.{IsEncodingOfHead}
 use Rattle.passkey_cbor.specs.CursorState.{CursorState, ahead, MovesForward}
 use Rattle.passkey_cbor.specs.Skipped.{PassesLeadingItem}
@@ -100,7 +100,7 @@ module _ (bytes : List ℕ) (o : ℕ) (inside : o ≤ length bytes) where
         is_map = moved_view _ m.container m.is_map;
         is_first = record {
           before = f.before;
-          behind = f.behind;
+          following = f.following;
           value = f.value;
           key_at = f.key_at + o;
           whole = f.whole;

@@ -12,10 +12,10 @@ use Rattle.passkey_cbor.specs.CursorState.{CursorState}
 use Rattle.passkey_cbor.specs.EncodedAt.{Lies, IsEncodedAt, PairsAreEncodedAt, Walks, Looks, Passes}
 use Rattle.passkey_cbor.specs.declared.head.Head.{Head}
 use Rattle.passkey_cbor.specs.declared.head.Head.TheVariants as head
-use Rattle.passkey_cbor.proofs.EncodedFrom.{only_one, stands_front}
-use Rattle.passkey_cbor.proofs.Items.{members-pairs_of}
-use Rattle.passkey_cbor.proofs.Lists.{each_and_one}
-use Rattle.passkey_cbor.proofs.More.{split}
+use Rattle.passkey_cbor.proofs.items.EncodedFrom.{only_one, stands_front}
+use Rattle.passkey_cbor.proofs.items.Items.{members-pairs_of}
+use Rattle.passkey_cbor.proofs.items.Lists.{each_and_one}
+use Rattle.passkey_cbor.proofs.items.More.{split}
 use Rattle.passkey_view.specs.declared.item_view.ItemView.{ItemView}
 use Rattle.passkey_view.specs.ItemView.{IsViewOf, HasItemAt, HasNoItemAt, IsOpened}
 use Rattle.passkey_view.specs.Member.{Members, PassedKey, PassesKey, HasNoKey, IsFirstAmong, FindsAmong, HasMember, HasNoMember}
@@ -145,7 +145,7 @@ module _ {key : Item} {ms : Members} {bytes : List ℕ} {from to : ℕ} {left : 
       let from_is : v.from ≡ n.key_end = view.from_is in
       record {
         before = n.passed;
-        behind = n.others;
+        following = n.others;
         value = n.value;
         key_at = n.key_at;
         whole = rw is at n.whole;

@@ -35,9 +35,9 @@ pub record IsAttestedAt (bytes : List ℕ) (a : AttestedView) : Type 0 where
   pub key : IsMapAt bytes (55 + a.credential_id_len) a.public_key
 
 -- where the attested credential data end
-abbrev pub behind : Option AttestedView → ℕ
-behind (Some a) = a.public_key.end
-behind None = 37
+abbrev pub following : Option AttestedView → ℕ
+following (Some a) = a.public_key.end
+following None = 37
 
 -- where the last part ends, if the one before the extensions ends here
 abbrev pub end_of : ℕ → Option ItemView → ℕ
@@ -52,5 +52,5 @@ pub record IsDataView (bytes : List ℕ) (v : DataView) : Type 0 where
   pub counter : v.counter ≡ from_be_bytes w32
       (slice_index bytes 33 ∷ slice_index bytes 34 ∷ slice_index bytes 35 ∷ slice_index bytes 36 ∷ [])
   pub attested : IsWhere (has_flag attested_flag v.flags) (IsAttestedAt bytes) v.attested
-  pub extensions : IsWhere (has_flag extensions_flag v.flags) (IsMapAt bytes (behind v.attested)) v.extensions
-  pub end : v.end ≡ end_of (behind v.attested) v.extensions
+  pub extensions : IsWhere (has_flag extensions_flag v.flags) (IsMapAt bytes (following v.attested)) v.extensions
+  pub end : v.end ≡ end_of (following v.attested) v.extensions

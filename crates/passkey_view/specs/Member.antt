@@ -42,10 +42,10 @@ HasNoKey key ms = All (λ (m : Item × Item). m.0 ≡ key → ⊥) ms
 -- Of these members, which are encoded from the offset on, the first that has the key has the value of the view.
 pub record IsFirstAmong (key : Item) (ms : Members) (bytes : List ℕ) (from : ℕ) (v : ItemView) : Type 0 where
   pub before : Members
-  pub behind : Members
+  pub following : Members
   pub value : Item
   pub key_at : ℕ
-  pub whole : ms ≡ before ++ (key, value) ∷ behind
+  pub whole : ms ≡ before ++ (key, value) ∷ following
   pub first : HasNoKey key before
   pub earlier : Lies (Each (PairWithin max_depth) before) bytes from key_at
   pub here : IsEncodedAt key bytes key_at v.from

@@ -1,6 +1,7 @@
 //! Client data compared with what a client writes (WebAuthn Level 3, section 5.8.1.2).
 ghost use Rattle.std.specs.Prelude.{◌≡◌, ◌<◌, ◌++◌, ◌∷◌, [], ℕ, map, option_map};
-ghost use Rattle.passkey_view.specs.ClientData.{after, after_base64url, after_challenge, after_cross_origin, after_fixed_members, after_string, after_top_origin, escaped, hex_digit, is_client_data, symbol};
+ghost use Rattle.passkey_view.specs.ClientData.{after, after_base64url, after_challenge, after_cross_origin, after_fixed_members};
+ghost use Rattle.passkey_view.specs.ClientData.{after_string, after_top_origin, escaped, hex_digit, is_client_data, symbol};
 
 /// Returns what follows the piece, if the text begins with it.
 #[tactic(auto, using(crate::proofs::Prefixes::after_taken))]

@@ -1,7 +1,7 @@
 //! The parts of authenticator data.
 ghost use Rattle.std.specs.Prelude.{◌≡◌, ◌≤◌, ◌+◌, length, slice_index};
 ghost use Rattle.passkey_core.specs.DataFlags.{has_flag, attested_flag, extensions_flag};
-ghost use Rattle.passkey_view.specs.DataView.{FindsExactly, IsMapAt, IsAttestedAt, IsWhere, IsDataView, behind, end_of};
+ghost use Rattle.passkey_view.specs.DataView.{FindsExactly, IsMapAt, IsAttestedAt, IsWhere, IsDataView, following, end_of};
 
 use crate::item_view::{ItemView, item_at};
 use passkey_cbor::Head;
@@ -61,22 +61,22 @@ pub fn data_parts(bytes: &[u8]) -> Option<DataView>
     let flags = bytes[32];
     match attested_where(flags, bytes) {
         None => None,
-        Some(attested) => match extensions_where(flags, bytes, behind(&attested)) {
+        Some(attested) => match extensions_where(flags, bytes, following(&attested)) {
             None => None,
             Some(extensions) => Some(DataView {
                 counter: u32::from_be_bytes([bytes[33], bytes[34], bytes[35], bytes[36]]),
                 flags,
                 attested,
                 extensions,
-                end: end_of(behind(&attested), &extensions),
+                end: end_of(following(&attested), &extensions),
             }),
         },
     }
 }
 
 /// Returns the offset after the attested credential data.
-fn behind(attested: &Option<AttestedView>) -> usize
-    ensures { result ≡ behind attested.now }
+fn following(attested: &Option<AttestedView>) -> usize
+    ensures { result ≡ following attested.now }
 {
     match attested {
         Some(attested) => attested.public_key.end,

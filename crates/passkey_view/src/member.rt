@@ -18,7 +18,7 @@ pub trait Key: Copy {
     fn pass(&self, cursor: &mut Cursor<'_>) -> Option<bool>
         ensures passes { (x : Item) (to : ℕ) → IsEncodedAt x cursor.old.bytes cursor.old.place to
             → PassesKey (item self.now) x to cursor.old cursor.new result }
-        ensures went { MovesForward cursor.old cursor.new };
+        ensures moves { MovesForward cursor.old cursor.new };
 }
 
 impl Key for i64 {

@@ -10,7 +10,7 @@ use Rattle.std.proofs.lemmas.Bool.Decides.{nat_tests}
 use Rattle.std.proofs.lemmas.Str.{digit_value_digit}
 use Rattle.passkey_iana.specs.Signed64.{is_signed_64}
 use Rattle.passkey_webauthn.specs.NumberText.{is_point, before_point, after_point, whole_64}
-use Rattle.passkey_webauthn.specs.NumberState.{number_64, are_digits, whole_behind, IsOf}
+use Rattle.passkey_webauthn.specs.NumberState.{number_64, are_digits, whole_after, IsOf}
 use Rattle.passkey_webauthn.specs.declared.number_state.Digits.{Digits}
 use Rattle.passkey_webauthn.specs.declared.number_state.NumberState.{NumberState}
 use Rattle.passkey_webauthn.specs.declared.number_state.NumberState.TheVariants as state
@@ -70,7 +70,7 @@ no_digit : (has : Bool) (c : ℕ) (ds : List ℕ) → is_ascii_digit c ≡ false
 no_digit has c ds e = rw e refl
 
 whole_more : (d : Digits) (c : ℕ) (more : List ℕ) → is_ascii_digit c ≡ true
-    → whole_behind (state.Whole d) (c ∷ more) ≡ number_64 (are_digits true (before_point more ++ after_point more))
+    → whole_after (state.Whole d) (c ∷ more) ≡ number_64 (are_digits true (before_point more ++ after_point more))
     d.is_negative (digits_value_after 10 (d.whole * 10 + (c - 48)) (before_point more))
 whole_more d c more e =
     let other = no_point c e in
@@ -81,18 +81,18 @@ whole_more d c more e =
 
 pub whole_digit : (d e : Digits) (c : ℕ) (more : List ℕ) → is_ascii_digit c ≡ true
     → e ≡ record { is_negative = d.is_negative; whole = d.whole * 10 + (c - 48); has_digit = true }
-    → whole_behind (state.Whole d) (c ∷ more) ≡ whole_behind (state.Whole e) more
+    → whole_after (state.Whole d) (c ∷ more) ≡ whole_after (state.Whole e) more
 whole_digit d e c more digit is =
-    whole_more d c more digit ∙ ap (λ (n : Digits). whole_behind (state.Whole n) more) (sym is)
+    whole_more d c more digit ∙ ap (λ (n : Digits). whole_after (state.Whole n) more) (sym is)
 
 pub whole_large : (d : Digits) (c : ℕ) (more : List ℕ) → is_ascii_digit c ≡ true → 922337203685477580 < d.whole
-    → whole_behind (state.Whole d) (c ∷ more) ≡ None
+    → whole_after (state.Whole d) (c ∷ more) ≡ None
 whole_large d c more digit large =
     whole_more d c more digit ∙ too_large _ d.is_negative _
     (omega (arith, large, digits_more (before_point more) (d.whole * 10 + (c - 48))))
 
 pub whole_other : (d : Digits) (c : ℕ) (more : List ℕ) → (c == 46) ≡ false → is_ascii_digit c ≡ false
-    → whole_behind (state.Whole d) (c ∷ more) ≡ None
+    → whole_after (state.Whole d) (c ∷ more) ≡ None
 whole_other d c more other e =
     rw (
       before_other c more other,
@@ -105,8 +105,8 @@ whole_other d c more other e =
 pub of_same : (a b : NumberState) (text t : List ℕ) → b ≡ a → t ≡ text → IsOf a text → IsOf b t
 of_same a b text t state_is text_is is more =
     ap (λ (u : List ℕ). whole_64 (u ++ more)) text_is ∙ is more
-    ∙ ap (λ (s : NumberState). whole_behind s more) (sym state_is)
+    ∙ ap (λ (s : NumberState). whole_after s more) (sym state_is)
 
 pub of_more : (a b : NumberState) (c : ℕ) (text : List ℕ) → IsOf a text
-    → ((more : List ℕ) → whole_behind a (c ∷ more) ≡ whole_behind b more) → IsOf b (text ++ c ∷ [])
+    → ((more : List ℕ) → whole_after a (c ∷ more) ≡ whole_after b more) → IsOf b (text ++ c ∷ [])
 of_more a b c text is step more = ap whole_64 (append_assoc text (c ∷ []) more) ∙ is (c ∷ more) ∙ step more

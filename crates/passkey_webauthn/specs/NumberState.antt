@@ -17,13 +17,13 @@ abbrev pub are_digits : Bool → List ℕ → Bool
 are_digits has_digit ds = list_all is_ascii_digit ds && (has_digit || nat_lt 0 (length ds))
 
 -- the integer that a text in this state denotes if it goes on with `more`
-abbrev pub whole_behind : NumberState → List ℕ → Option ℤ
-whole_behind state.Empty more = whole_64 more
-whole_behind (state.Whole d) more = number_64 (are_digits d.has_digit (before_point more ++ after_point more))
+abbrev pub whole_after : NumberState → List ℕ → Option ℤ
+whole_after state.Empty more = whole_64 more
+whole_after (state.Whole d) more = number_64 (are_digits d.has_digit (before_point more ++ after_point more))
     d.is_negative (digits_value_after 10 d.whole (before_point more))
-whole_behind (state.Fraction d) more = number_64 (are_digits d.has_digit more) d.is_negative d.whole
-whole_behind state.Refused more = None
+whole_after (state.Fraction d) more = number_64 (are_digits d.has_digit more) d.is_negative d.whole
+whole_after state.Refused more = None
 
 -- The text is in this state: whatever follows it, the state determines the integer of the whole text.
 abbrev pub IsOf : NumberState → List ℕ → Type 0
-IsOf s text = (more : List ℕ) → whole_64 (text ++ more) ≡ whole_behind s more
+IsOf s text = (more : List ℕ) → whole_64 (text ++ more) ≡ whole_after s more

@@ -1,6 +1,6 @@
 //! The states of reading a number's text.
 ghost use Rattle.std.specs.Prelude.{◌≡◌, ℕ, false, List, [], ◌∷◌};
-ghost use Rattle.passkey_webauthn.specs.NumberState.{number_64, whole_behind};
+ghost use Rattle.passkey_webauthn.specs.NumberState.{number_64, whole_after};
 ghost use Rattle.passkey_webauthn.specs.declared.number_state.NumberState.TheVariants.{Whole, Fraction};
 
 /// A sign and the digits after it.
@@ -44,7 +44,7 @@ impl Digits {
 
     // Adds a digit before the point, or the point.
     fn push_whole(self, byte: u8) -> NumberState
-        ensures { (more : List ℕ) → whole_behind (Whole self) (byte ∷ more) ≡ whole_behind result more }
+        ensures { (more : List ℕ) → whole_after (Whole self) (byte ∷ more) ≡ whole_after result more }
     {
         if byte == b'.' {
             return NumberState::Fraction(self);
@@ -61,7 +61,7 @@ impl Digits {
 
     // Adds a digit after the point.
     fn push_fraction(self, byte: u8) -> NumberState
-        ensures { (more : List ℕ) → whole_behind (Fraction self) (byte ∷ more) ≡ whole_behind result more }
+        ensures { (more : List ℕ) → whole_after (Fraction self) (byte ∷ more) ≡ whole_after result more }
     {
         if !byte.is_ascii_digit() {
             return NumberState::Refused;
@@ -91,7 +91,7 @@ impl Digits {
 impl NumberState {
     /// The state after one more byte.
     pub(crate) fn push(self, byte: u8) -> NumberState
-        ensures { (more : List ℕ) → whole_behind self (byte ∷ more) ≡ whole_behind result more }
+        ensures { (more : List ℕ) → whole_after self (byte ∷ more) ≡ whole_after result more }
     {
         match self {
             NumberState::Empty => match byte {
@@ -107,7 +107,7 @@ impl NumberState {
 
     /// The whole part, if the text ends here.
     pub(crate) fn whole(self) -> Option<i64>
-        ensures { result ≡ whole_behind self [] }
+        ensures { result ≡ whole_after self [] }
     {
         match self {
             NumberState::Whole(digits) | NumberState::Fraction(digits) => digits.number(),

@@ -40,14 +40,14 @@ later_then (member name d ms) ns =
     ∙ member_then name d (joined ms ns)
 
 -- the same after other text
-member_behind : (front name : List ℕ) (d : Data) (ms : Members)
+member_after : (front name : List ℕ) (d : Data) (ms : Members)
     → front ++ member_text name d ++ members_text true ms ≡ front ++ members_text true (member name d ms)
-member_behind front name d ms = append_assoc front (member_text name d) (members_text true ms)
+member_after front name d ms = append_assoc front (member_text name d) (members_text true ms)
     ∙ ap (λ (s : List ℕ). front ++ s) (member_then name d ms)
 
-later_behind : (front : List ℕ) (ms ns : Members)
+later_after : (front : List ℕ) (ms ns : Members)
     → front ++ later_text ms ++ members_text true ns ≡ front ++ members_text true (joined ms ns)
-later_behind front ms ns =
+later_after front ms ns =
     append_assoc front (later_text ms) (members_text true ns) ∙ ap (λ (s : List ℕ). front ++ s) (later_then ms ns)
 
 module _ (ty challenge origin cross_origin : Data) where
@@ -69,9 +69,9 @@ module _ (ty challenge origin cross_origin : Data) where
       ≡ compact_text (object (member (codes "type") ty (member (codes "challenge") challenge
       (member (codes "origin") origin (member (codes "crossOrigin") cross_origin ms)))))
   all_fixed ms =
-      member_behind front_origin (codes "crossOrigin") cross_origin ms
-      ∙ member_behind front_challenge (codes "origin") origin (member (codes "crossOrigin") cross_origin ms)
-      ∙ member_behind front_type (codes "challenge") challenge
+      member_after front_origin (codes "crossOrigin") cross_origin ms
+      ∙ member_after front_challenge (codes "origin") origin (member (codes "crossOrigin") cross_origin ms)
+      ∙ member_after front_type (codes "challenge") challenge
       (member (codes "origin") origin (member (codes "crossOrigin") cross_origin ms))
       ∙ opened (member (codes "challenge") challenge
       (member (codes "origin") origin (member (codes "crossOrigin") cross_origin ms)))
@@ -80,8 +80,8 @@ module _ (ty challenge origin cross_origin : Data) where
 pub whole_text : {E : Type 0} (x : ClientData E) (extra unknown : Members) → fixed_text x ++ later_text extra
     ++ later_text unknown ++ 125 ∷ [] ≡ compact_text (object (with_fixed x (joined extra unknown)))
 whole_text x extra unknown =
-    later_behind (fixed_text x ++ later_text extra) unknown no_members
+    later_after (fixed_text x ++ later_text extra) unknown no_members
     ∙ ap (λ (ms : Members). fixed_text x ++ later_text extra ++ members_text true ms) (joined_none unknown)
-    ∙ later_behind (fixed_text x) extra unknown
+    ∙ later_after (fixed_text x) extra unknown
     ∙ all_fixed (string (client_data_type_name x.ty)) (string x.challenge) (string x.origin)
     (boolean (unwrap_or x.cross_origin false)) (joined extra unknown)

@@ -27,7 +27,7 @@ abbrev pub info_of : List ℕ → ℕ
 info_of [] = 0
 info_of (b ∷ bytes) = b % 32
 
--- of an argument in more bytes than it needs, by the additional information: 24 + n is item_behind as _n
+-- of an argument in more bytes than it needs, by the additional information: 24 + n is item_after as _n
 abbrev pub mark : ℕ → ℕ → List ℕ
 mark info n =
     if info == 24 && nat_lt n 24 then codes "_0"
@@ -54,18 +54,18 @@ fewer (Some n) = Some (n - 1)
 fewer None = None
 
 -- the bytes after the last part
-abbrev pub behind_last : Option ℕ → List ℕ → List ℕ
-behind_last (Some n) bytes = bytes
-behind_last None bytes = drop 1 bytes
+abbrev pub after_last : Option ℕ → List ℕ → List ℕ
+after_last (Some n) bytes = bytes
+after_last None bytes = drop 1 bytes
 
 -- each part has at least one byte, so the number of bytes bounds that of the parts
 unfoldable pub parts_text : Tell → List ℕ → ℕ → Option ℕ → Bool → Tell
 parts_text tell margin zero left is_first bytes out =
-    if goes_on left bytes then None else Some (out, behind_last left bytes)
+    if goes_on left bytes then None else Some (out, after_last left bytes)
 parts_text tell margin (suc others) left is_first bytes out =
     if goes_on left bytes
     then (tell bytes (out ++ separator is_first margin) >>= λ x. parts_text tell margin others (fewer left) false x.1 x.0)
-    else Some (out, behind_last left bytes)
+    else Some (out, after_last left bytes)
 
 abbrev pub all_parts : Tell → List ℕ → Option ℕ → Tell
 all_parts tell margin len bytes out = parts_text tell margin (length bytes) len true bytes out
@@ -94,9 +94,9 @@ chunks_text is_text bytes out =
     then (all_parts (chunk_text is_text) [] None bytes (out ++ codes "(_ ") >>= λ x. Some (x.0 ++ 41 ∷ [], x.1))
     else Some (out ++ empty_text is_text, drop 1 bytes)
 
-unfoldable pub string_behind : Bool → ℕ → Option ℕ → Tell
-string_behind is_text info (Some n) = piece_text is_text (mark info n) n
-string_behind is_text info None = chunks_text is_text
+unfoldable pub string_after : Bool → ℕ → Option ℕ → Tell
+string_after is_text info (Some n) = piece_text is_text (mark info n) n
+string_after is_text info None = chunks_text is_text
 
 -- ---- arrays and maps
 
@@ -112,15 +112,15 @@ abbrev pub closing_of : Bool → ℕ
 closing_of is_map = if is_map then 125 else 93
 
 -- `tell` tells a data item inside, by the margin
-unfoldable pub list_behind : (List ℕ → Tell) → Bool → List ℕ → List ℕ → Option ℕ → Tell
-list_behind tell is_map margin indicator len bytes out =
+unfoldable pub list_after : (List ℕ → Tell) → Bool → List ℕ → List ℕ → Option ℕ → Tell
+list_after tell is_map margin indicator len bytes out =
     all_parts (member_text (tell (deeper margin)) is_map) (deeper margin) len bytes
     (out ++ opening_of is_map ∷ (indicator ++ gap indicator margin)) >>= λ x.
     Some (x.0 ++ (closing (not (goes_on len bytes)) margin ++ closing_of is_map ∷ []), x.1)
 
 -- a tag number, whose content `tell` tells
-unfoldable pub tag_behind : (List ℕ → Tell) → List ℕ → List ℕ → ℕ → Tell
-tag_behind tell margin indicator n bytes out =
+unfoldable pub tag_after : (List ℕ → Tell) → List ℕ → List ℕ → ℕ → Tell
+tag_after tell margin indicator n bytes out =
     tell margin bytes (out ++ (decimal n ++ (indicator ++ 40 ∷ []))) >>= λ x. Some (x.0 ++ 41 ∷ [], x.1)
 
 -- ---- data items
@@ -135,26 +135,26 @@ simple_text n =
 
 -- A data item whose head, with this additional information, is in front of the bytes. `inner` tells those one level
 -- deeper, if another level is allowed.
-unfoldable pub item_behind : Option (List ℕ → Tell) → List ℕ → ℕ → Head → Tell
-item_behind inner margin info (head.Unsigned n) bytes out = Some (out ++ (decimal n ++ mark info n), bytes)
-item_behind inner margin info (head.Negative n) bytes out = Some (out ++ (signed_decimal (negsuc n) ++ mark info n), bytes)
-item_behind inner margin info (head.Bytes len) bytes out = string_behind false info len bytes out
-item_behind inner margin info (head.Text len) bytes out = string_behind true info len bytes out
-item_behind inner margin info (head.Array len) bytes out =
-    inner >>= λ tell. list_behind tell false margin (length_mark info len) len bytes out
-item_behind inner margin info (head.Map len) bytes out =
-    inner >>= λ tell. list_behind tell true margin (length_mark info len) len bytes out
-item_behind inner margin info (head.Tag n) bytes out =
-    inner >>= λ tell. tag_behind tell margin (mark info n) n bytes out
-item_behind inner margin info (head.Simple n) bytes out = Some (out ++ simple_text n, bytes)
-item_behind inner margin info (head.Float f) bytes out = Some (out ++ float_text f, bytes)
-item_behind inner margin info head.Break bytes out = None
+unfoldable pub item_after : Option (List ℕ → Tell) → List ℕ → ℕ → Head → Tell
+item_after inner margin info (head.Unsigned n) bytes out = Some (out ++ (decimal n ++ mark info n), bytes)
+item_after inner margin info (head.Negative n) bytes out = Some (out ++ (signed_decimal (negsuc n) ++ mark info n), bytes)
+item_after inner margin info (head.Bytes len) bytes out = string_after false info len bytes out
+item_after inner margin info (head.Text len) bytes out = string_after true info len bytes out
+item_after inner margin info (head.Array len) bytes out =
+    inner >>= λ tell. list_after tell false margin (length_mark info len) len bytes out
+item_after inner margin info (head.Map len) bytes out =
+    inner >>= λ tell. list_after tell true margin (length_mark info len) len bytes out
+item_after inner margin info (head.Tag n) bytes out =
+    inner >>= λ tell. tag_after tell margin (mark info n) n bytes out
+item_after inner margin info (head.Simple n) bytes out = Some (out ++ simple_text n, bytes)
+item_after inner margin info (head.Float f) bytes out = Some (out ++ float_text f, bytes)
+item_after inner margin info head.Break bytes out = None
 
 -- a data item of at most this many levels
 unfoldable pub item_text : ℕ → List ℕ → Tell
-item_text zero margin bytes out = head_at bytes >>= λ h. item_behind None margin (info_of bytes) h.0 h.1 out
+item_text zero margin bytes out = head_at bytes >>= λ h. item_after None margin (info_of bytes) h.0 h.1 out
 item_text (suc levels) margin bytes out =
-    head_at bytes >>= λ h. item_behind (Some (item_text levels)) margin (info_of bytes) h.0 h.1 out
+    head_at bytes >>= λ h. item_after (Some (item_text levels)) margin (info_of bytes) h.0 h.1 out
 
 abbrev pub inner_of : ℕ → Option (List ℕ → Tell)
 inner_of zero = None

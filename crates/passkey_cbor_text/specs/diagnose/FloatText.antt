@@ -18,9 +18,9 @@ binary_by bits sign one range scale = record {
 }
 
 -- the digits after the point, this many, of rest / whole, which is below 1
-abbrev pub digits_behind : ℕ → ℕ → ℕ → List ℕ
-digits_behind zero rest whole = []
-digits_behind (suc n) rest whole = (48 + rest * 10 / whole) ∷ digits_behind n (rest * 10 % whole) whole
+abbrev pub digits_after : ℕ → ℕ → ℕ → List ℕ
+digits_after zero rest whole = []
+digits_after (suc n) rest whole = (48 + rest * 10 / whole) ∷ digits_after n (rest * 10 % whole) whole
 
 -- n times a power of two, whose sign is that of the exponent
 abbrev pub hexadecimal_text : ℕ → List ℕ → ℕ → List ℕ
@@ -30,7 +30,7 @@ hexadecimal_text n sign exponent = codes "0x" ++ digits 16 false n ++ sign ++ de
 abbrev pub quotient_text : ℕ → ℕ → List ℕ
 quotient_text n k =
     if k == 0 then decimal n ++ codes ".0"
-    else if nat_le k 60 then decimal (n / 2 ^ k) ++ (46 ∷ digits_behind k (n % 2 ^ k) (2 ^ k))
+    else if nat_le k 60 then decimal (n / 2 ^ k) ++ (46 ∷ digits_after k (n % 2 ^ k) (2 ^ k))
     else hexadecimal_text n (codes "p-") k
 
 -- n / 2 ^ k, brought to its lowest terms

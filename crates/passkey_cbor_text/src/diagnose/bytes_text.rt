@@ -6,10 +6,10 @@ ghost use Rattle.passkey_cbor.specs.EncodedAt.{goes_on};
 ghost use Rattle.passkey_cbor.specs.HeadReading.{head_at};
 ghost use Rattle.passkey_cbor.specs.Reading.{chunk_len};
 ghost use Rattle.passkey_cbor_text.specs.diagnose.Diagnosis.{closing, deeper};
-ghost use Rattle.passkey_cbor_text.specs.diagnose.BytesText.{Tells, all_parts, behind_last, bytes_diagnosis, chunk_text, chunks_text};
+ghost use Rattle.passkey_cbor_text.specs.diagnose.BytesText.{Tells, all_parts, after_last, bytes_diagnosis, chunk_text, chunks_text};
 ghost use Rattle.passkey_cbor_text.specs.diagnose.BytesText.{closing_of, empty_text, fewer, gap, info_of, inner_of, item_text};
-ghost use Rattle.passkey_cbor_text.specs.diagnose.BytesText.{length_mark, list_behind, mark, member_text, opening_of, parts_text};
-ghost use Rattle.passkey_cbor_text.specs.diagnose.BytesText.{piece_text, simple_text, string_behind, tag_behind, item_behind};
+ghost use Rattle.passkey_cbor_text.specs.diagnose.BytesText.{length_mark, list_after, mark, member_text, opening_of, parts_text};
+ghost use Rattle.passkey_cbor_text.specs.diagnose.BytesText.{piece_text, simple_text, string_after, tag_after, item_after};
 
 use crate::diagnose::diagnosis::{close, deeper, push_number, push_separator, push_simple};
 use crate::diagnose::float::push_float;
@@ -91,10 +91,10 @@ fn fewer(left: Option<u64>) -> Option<u64>
 }
 
 /// Returns the bytes after the last part, and after the break if there is one.
-#[tactic(auto, using(crate::proofs::BytesTexts::all_behind))]
-fn behind_last(left: Option<u64>, bytes: &[u8]) -> &[u8]
+#[tactic(auto, using(crate::proofs::BytesTexts::all_after))]
+fn after_last(left: Option<u64>, bytes: &[u8]) -> &[u8]
     requires { goes_on left bytes.now ≡ false }
-    ensures { result.now ≡ behind_last left bytes.now }
+    ensures { result.now ≡ after_last left bytes.now }
 {
     match left {
         Some(_) => bytes,
@@ -232,7 +232,7 @@ fn push_all_chunks<'a>(
         }
         is_first = false;
     }
-    Ok(Some(behind_last(None, here)))
+    Ok(Some(after_last(None, here)))
 }
 
 /// Appends a string of indefinite length, whose head is in front of the bytes.
@@ -258,7 +258,7 @@ fn push_chunks<'a>(
     }
 }
 
-#[tactic(auto, unfolding(crate::specs::diagnose::BytesText::string_behind))]
+#[tactic(auto, unfolding(crate::specs::diagnose::BytesText::string_after))]
 fn push_string<'a>(
     out: &mut String,
     alloc: Global,
@@ -267,7 +267,7 @@ fn push_string<'a>(
     len: Option<u64>,
     bytes: &'a [u8],
 ) -> Result<Option<&'a [u8]>, AllocError>
-    ensures { Tells (string_behind is_text info len bytes.now (string_bytes out.old)) (string_bytes out.new) result }
+    ensures { Tells (string_after is_text info len bytes.now (string_bytes out.old)) (string_bytes out.new) result }
 {
     match len {
         Some(n) => push_piece(out, alloc, is_text, mark(info, n), n, bytes),
@@ -369,7 +369,7 @@ fn push_members<'a>(
         left = fewer(left);
         is_first = false;
     }
-    Ok(Some(behind_last(left, here)))
+    Ok(Some(after_last(left, here)))
 }
 
 /// Appends an array or a map whose head, with this encoding indicator, is in front of the bytes.
@@ -384,7 +384,7 @@ fn push_list<'a>(
     levels: usize,
     margin: &str,
 ) -> Result<Option<&'a [u8]>, AllocError>
-    ensures { Tells (list_behind (item_text levels) is_map margin.now indicator.now len bytes.now (string_bytes out.old))
+    ensures { Tells (list_after (item_text levels) is_map margin.now indicator.now len bytes.now (string_bytes out.old))
         (string_bytes out.new) result }
 {
     let inner = deeper(alloc, margin)?;
@@ -408,7 +408,7 @@ fn push_tagged<'a>(
     levels: usize,
     margin: &str,
 ) -> Result<Option<&'a [u8]>, AllocError>
-    ensures { Tells (tag_behind (item_text levels) margin.now indicator.now tag bytes.now (string_bytes out.old))
+    ensures { Tells (tag_after (item_text levels) margin.now indicator.now tag bytes.now (string_bytes out.old))
         (string_bytes out.new) result }
 {
     push_unsigned(out, tag, indicator)?;
@@ -424,7 +424,7 @@ fn push_tagged<'a>(
 
 /// Appends a data item whose head, with this additional information, is in front of the bytes.
 #[cycle(bytes)]
-fn push_behind<'a>(
+fn push_after<'a>(
     out: &mut String,
     alloc: Global,
     head: Head,
@@ -433,7 +433,7 @@ fn push_behind<'a>(
     levels: usize,
     margin: &str,
 ) -> Result<Option<&'a [u8]>, AllocError>
-    ensures { Tells (item_behind (inner_of levels) margin.now info head bytes.now (string_bytes out.old)) (string_bytes out.new)
+    ensures { Tells (item_after (inner_of levels) margin.now info head bytes.now (string_bytes out.old)) (string_bytes out.new)
         result }
 {
     match head {
@@ -489,7 +489,7 @@ fn push_item<'a>(
 {
     match front(bytes) {
         None => Ok(None),
-        Some((head, rest)) => push_behind(out, alloc, head, info_of(bytes), rest, levels, margin),
+        Some((head, rest)) => push_after(out, alloc, head, info_of(bytes), rest, levels, margin),
     }
 }
 

@@ -132,7 +132,7 @@ pub(crate) fn push_simple(out: &mut String, n: u8) -> Result<(), AllocError>
     out.push(')')
 }
 
-/// Appends the data item, with this at the beginning of each further line, or nothing if the text
+/// Appends the data item, with this at the beginning of each later line, or nothing if the text
 /// is one line.
 #[cycle(diagnosis)]
 fn push_value(

@@ -1,6 +1,6 @@
 //! Floating-point numbers.
 ghost use Rattle.std.specs.Prelude.{◌≡◌, ◌+◌, ◌*◌, ◌<◌, ◌≤◌, ◌^◌, ◌++◌, OnOk, decimal, string_bytes};
-ghost use Rattle.passkey_cbor_text.specs.diagnose.FloatText.{binary_by, binary_of, mark_of, digits_behind, doubled, hexadecimal_text};
+ghost use Rattle.passkey_cbor_text.specs.diagnose.FloatText.{binary_by, binary_of, mark_of, digits_after, doubled, hexadecimal_text};
 ghost use Rattle.passkey_cbor_text.specs.diagnose.FloatText.{quotient_text, halved_text, doubled_text, scaled_text, sign_text};
 ghost use Rattle.passkey_cbor_text.specs.diagnose.FloatText.{binary_text, float_text};
 
@@ -43,10 +43,10 @@ fn binary_by(bits: u64, sign: u64, one: u64, range: u64, scale: u64) -> Binary
 
 /// Appends this many digits after the point of rest / whole.
 #[tactic(auto, using(crate::proofs::Texts::digit_below))]
-fn push_digits_behind(out: &mut String, count: u64, rest: u64, whole: u64) -> Result<(), AllocError>
+fn push_digits_after(out: &mut String, count: u64, rest: u64, whole: u64) -> Result<(), AllocError>
     requires below { rest < whole }
     requires fits { 10 * whole < 2 ^ 64 }
-    ensures { OnOk result (string_bytes out.new ≡ string_bytes out.old ++ digits_behind count rest whole) }
+    ensures { OnOk result (string_bytes out.new ≡ string_bytes out.old ++ digits_after count rest whole) }
 {
     let mut rest = rest;
     for _place in 0..count {
@@ -76,7 +76,7 @@ fn push_quotient(out: &mut String, n: u64, k: u64) -> Result<(), AllocError>
         let whole = 2u64.pow(k as u32);
         let front = n / whole;
         write!(out, "{front}.")?;
-        push_digits_behind(out, k, n % whole, whole)
+        push_digits_after(out, k, n % whole, whole)
     } else {
         push_hexadecimal(out, n, "p-", k)
     }

@@ -7,9 +7,9 @@ abbrev pub first_byte : List ℕ → Option ℕ
 first_byte [] = None
 first_byte (b ∷ bs) = Some b
 
-abbrev pub behind_first : List ℕ → Option (List ℕ)
-behind_first [] = None
-behind_first (b ∷ bs) = Some bs
+abbrev pub after_first : List ℕ → Option (List ℕ)
+after_first [] = None
+after_first (b ∷ bs) = Some bs
 
 -- the first byte is that of the status code
 abbrev pub HasStatus : List ℕ → StatusCode → Type 0

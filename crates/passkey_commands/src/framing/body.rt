@@ -1,6 +1,6 @@
 //! The bytes of a request and of a response: the first byte, and the body after it.
 ghost use Rattle.std.specs.Prelude.{◌≡◌, IfSome, option_map};
-ghost use Rattle.passkey_commands.specs.framing.Body.{first_byte, behind_first, HasStatus, map_of_body};
+ghost use Rattle.passkey_commands.specs.framing.Body.{first_byte, after_first, HasStatus, map_of_body};
 ghost use Rattle.passkey_commands.specs.framing.Command.{command_of};
 ghost use Rattle.passkey_kinds.specs.Words.{ReadsMessage, GrowsMessage, read_item};
 ghost use Rattle.passkey_kinds.specs.declared.fault.Fault.TheVariants.{OutOfMemory as NoRoom};
@@ -15,7 +15,7 @@ use std::alloc::Global;
 /// nothing.
 pub fn request_of(request: &[u8]) -> Option<(Command, &[u8])>
     ensures command { option_map (λ r. r.0) result ≡ option_map command_of (first_byte request.now) }
-    ensures body { option_map (λ r. r.1.now) result ≡ behind_first request.now }
+    ensures body { option_map (λ r. r.1.now) result ≡ after_first request.now }
 {
     let (byte, body) = request.split_first()?;
     Some((Command::from_byte(*byte), body))
@@ -26,7 +26,7 @@ pub fn request_of(request: &[u8]) -> Option<(Command, &[u8])>
 /// exactly for no bytes. Allocates nothing.
 pub fn response_of(response: &[u8]) -> Option<(StatusCode, &[u8])>
     ensures status { IfSome result (λ r. HasStatus response.now r.0) }
-    ensures body { option_map (λ r. r.1.now) result ≡ behind_first response.now }
+    ensures body { option_map (λ r. r.1.now) result ≡ after_first response.now }
 {
     let (byte, body) = response.split_first()?;
     Some((StatusCode::from(*byte), body))

@@ -65,7 +65,7 @@ impl AttestedCredentialData {
         Ok(encoder.into_vec())
     }
 
-    /// Iterates over the encoded data, without further allocations. If an allocation fails, the
+    /// Iterates over the encoded data, without allocating again. If an allocation fails, the
     /// error returns the data unchanged.
     pub fn try_into_iter(
         self,

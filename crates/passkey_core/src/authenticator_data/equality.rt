@@ -2,7 +2,7 @@
 ghost use Rattle.std.specs.Prelude.{◌≡◌, ◌↔◌, IsTrue};
 ghost use Rattle.std.specs.Cmp.{on_per, partial_equiv_from_equiv};
 ghost use Rattle.std.specs.Ordering.{on};
-ghost use Rattle.passkey_core.specs.DataSame.{fixed_eq, behind_eq, data_eq, data_eq-equivalence};
+ghost use Rattle.passkey_core.specs.DataSame.{fixed_eq, after_eq, data_eq, data_eq-equivalence};
 ghost use Rattle.passkey_core.specs.DataViews.{data_parts};
 
 use crate::authenticator_data::AuthenticatorData;
@@ -13,8 +13,8 @@ fn have_equal_fixed_parts(a: &AuthenticatorData, b: &AuthenticatorData) -> bool
     a.rp_id_hash == b.rp_id_hash && u8::from(a.flags) == u8::from(b.flags) && a.counter == b.counter
 }
 
-fn have_equal_parts_behind(a: &AuthenticatorData, b: &AuthenticatorData) -> bool
-    ensures { result ≡ behind_eq (data_parts a.now) (data_parts b.now) }
+fn have_equal_parts_after(a: &AuthenticatorData, b: &AuthenticatorData) -> bool
+    ensures { result ≡ after_eq (data_parts a.now) (data_parts b.now) }
 {
     a.attested_credential_data == b.attested_credential_data && a.extensions == b.extensions
 }
@@ -22,7 +22,7 @@ fn have_equal_parts_behind(a: &AuthenticatorData, b: &AuthenticatorData) -> bool
 fn are_equal(a: &AuthenticatorData, b: &AuthenticatorData) -> bool
     ensures { result ≡ data_eq (data_parts a.now) (data_parts b.now) }
 {
-    have_equal_fixed_parts(a, b) && have_equal_parts_behind(a, b)
+    have_equal_fixed_parts(a, b) && have_equal_parts_after(a, b)
 }
 
 impl PartialEq for AuthenticatorData {

@@ -10,7 +10,8 @@ ghost use Rattle.passkey_core.specs.DataAnswers.{Returns};
 ghost use Rattle.passkey_core.specs.DataCounts.{Counts, CountsData, CountsEach, UnlessOutOfMemory};
 ghost use Rattle.passkey_core.specs.DataFlags.{attested_flag, extensions_flag, has_flag};
 ghost use Rattle.passkey_core.specs.DataNodes.{count_data, count_key, count_where, data_nodes, data_places};
-ghost use Rattle.passkey_core.specs.DataReading.{bytes_at, fixed_at, ids_at, read_map, ReadsItem, ReadsAttested, ReadsWhere, ReadsData, ReadsDataFront, ReadsDataExactly, AttestedGrows, DataGrows};
+ghost use Rattle.passkey_core.specs.DataReading.{bytes_at, fixed_at, ids_at, read_map, ReadsItem, ReadsAttested, ReadsWhere};
+ghost use Rattle.passkey_core.specs.DataReading.{ReadsData, ReadsDataFront, ReadsDataExactly, AttestedGrows, DataGrows};
 ghost use Rattle.passkey_core.specs.DataViews.{attested_parts, data_parts};
 ghost use Rattle.passkey_core.specs.DataFixed.{fixed_parts};
 

@@ -3,7 +3,8 @@ ghost use Rattle.std.specs.Prelude.{◌≡◌};
 ghost use Rattle.passkey_kinds.specs.Lending.{LendsRow};
 ghost use Rattle.passkey_kinds.specs.Words.{EachFits, ReadsHere, item_of, places_of, table_of};
 ghost use Rattle.passkey_ctap2.specs.Calls.{ReadsItem, ReadsSlice, Writes};
-ghost use Rattle.passkey_ctap2.specs.GetResponse.{GetResponseParts, get_response, get_response_fields, get_response_parts, get_response_tree, is_get_response_coherent};
+ghost use Rattle.passkey_ctap2.specs.GetResponse.{GetResponseParts, get_response, get_response_fields, get_response_parts};
+ghost use Rattle.passkey_ctap2.specs.GetResponse.{get_response_tree, is_get_response_coherent};
 
 use passkey_bytes::Bytes;
 use passkey_cbor::{BytesToken, Cursor, Value};

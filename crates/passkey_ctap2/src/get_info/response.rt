@@ -1,11 +1,15 @@
 //! authenticatorGetInfo responses.
 ghost use Rattle.std.specs.Prelude.{◌≡◌, ◌^◌, ◌++◌, ℕ, is_ok, true, false, option_map, IfOk, IfErr, OnOk};
 ghost use Rattle.std.specs.Int.NonZero.{non_zero_u128_get};
-ghost use Rattle.passkey_kinds.specs.Words.{KeysAscend, Item, item_of, IsWritable, written, IfPresent, ReadsHere, EachFits, fields_with, places_of, cost_at, keeps_at, shape_at, Puts, AllAccepted, put_all, number_tree};
+ghost use Rattle.passkey_kinds.specs.Words.{KeysAscend, Item, item_of, IsWritable, written, IfPresent, ReadsHere, EachFits};
+ghost use Rattle.passkey_kinds.specs.Words.{fields_with, places_of, cost_at, keeps_at, shape_at, Puts, AllAccepted, put_all};
+ghost use Rattle.passkey_kinds.specs.Words.{number_tree};
 ghost use Rattle.passkey_kinds.specs.Numbered.{has_room};
 ghost use Rattle.passkey_ctap2.specs.Calls.{ReadsItem, ReadsSlice};
 ghost use Rattle.passkey_ctap2.specs.Encodable.{EncodableFits, encodable_first_members, encodable_parts, encodable_places};
-ghost use Rattle.passkey_ctap2.specs.GetInfo.{GetInfoParts, first_members, middle_members, last_members, get_info_fields, get_info_empty, get_info_parts, get_info_tree, IsPositive, GetInfoFits, is_encodable, fault_of_size, is_get_info_coherent};
+ghost use Rattle.passkey_ctap2.specs.GetInfo.{GetInfoParts, first_members, middle_members, last_members, get_info_fields};
+ghost use Rattle.passkey_ctap2.specs.GetInfo.{get_info_empty, get_info_parts, get_info_tree, IsPositive, GetInfoFits};
+ghost use Rattle.passkey_ctap2.specs.GetInfo.{is_encodable, fault_of_size, is_get_info_coherent};
 ghost use Rattle.passkey_kinds.specs.Placed.{members_of};
 ghost use Rattle.passkey_kinds.specs.declared.fault.WriteFault.TheVariants.{NumberTooLarge as TooLarge};
 

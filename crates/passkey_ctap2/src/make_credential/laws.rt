@@ -5,7 +5,9 @@ ghost use Rattle.passkey_kinds.specs.Lending.{AuthDataAreLent};
 ghost use Rattle.passkey_kinds.specs.Numbered.{MessagesAreReadBack, is_shallow};
 ghost use Rattle.passkey_kinds.specs.Words.{EachFits, IsData, WrittenIsCanonical, WrittenIsReadBack, is_coherent, normal_data, read_item};
 ghost use Rattle.passkey_ctap2.specs.MakeRequest.{make_request, make_request_kept, make_request_tree, normal_make_request};
-ghost use Rattle.passkey_ctap2.specs.MakeResponse.{attestation_tree, is_make_response_coherent, make_response, make_response_fields, make_response_kept, make_response_tree, normal_make_response, unattested};
+ghost use Rattle.passkey_ctap2.specs.MakeResponse.{attestation_tree, is_make_response_coherent, make_response};
+ghost use Rattle.passkey_ctap2.specs.MakeResponse.{make_response_fields, make_response_kept, make_response_tree};
+ghost use Rattle.passkey_ctap2.specs.MakeResponse.{normal_make_response, unattested};
 
 /// The encoding of a coherent request, whatever bytes follow, decodes to the request with the
 /// option `up` set to true.

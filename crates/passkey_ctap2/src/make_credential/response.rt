@@ -3,7 +3,8 @@ ghost use Rattle.std.specs.Prelude.{◌≡◌, IfOk, OnOk};
 ghost use Rattle.passkey_kinds.specs.Lending.{LendsRow};
 ghost use Rattle.passkey_kinds.specs.Words.{EachFits, IsData, IsWritable, ReadsHere, data_parts, item_of, places_of, table_of, written};
 ghost use Rattle.passkey_ctap2.specs.Calls.{ReadsItem, ReadsSlice, Writes};
-ghost use Rattle.passkey_ctap2.specs.MakeResponse.{MakeResponseParts, attestation_tree, is_make_response_coherent, make_response, make_response_fields, make_response_parts, make_response_tree};
+ghost use Rattle.passkey_ctap2.specs.MakeResponse.{MakeResponseParts, attestation_tree, is_make_response_coherent, make_response};
+ghost use Rattle.passkey_ctap2.specs.MakeResponse.{make_response_fields, make_response_parts, make_response_tree};
 
 use passkey_bytes::{Bytes, Text};
 use passkey_cbor::{BytesToken, Cursor, Encoder, MAX_DEPTH, Value};

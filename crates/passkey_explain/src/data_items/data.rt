@@ -6,7 +6,8 @@ ghost use Rattle.passkey_core.specs.DataFlags.{has_flag};
 ghost use Rattle.passkey_core.specs.DataViews.{attested_parts, data_parts};
 ghost use Rattle.passkey_explain.specs.Described as spec;
 ghost use Rattle.passkey_explain.specs.Described.{described_of, labelled};
-ghost use Rattle.passkey_explain.specs.DescribedData.{field_of, attested_part, counter_leaf, described_data, described_flags, extensions_part, flag_part, if_present};
+ghost use Rattle.passkey_explain.specs.DescribedData.{field_of, attested_part, counter_leaf, described_data, described_flags};
+ghost use Rattle.passkey_explain.specs.DescribedData.{extensions_part, flag_part, if_present};
 
 use crate::data_items::item::describe_item;
 use crate::data_items::key::{describe_key, text_leaf};

@@ -6,7 +6,9 @@ ghost use Rattle.passkey_cose.specs.KeyLabels.{is_label};
 ghost use Rattle.passkey_explain.specs.Described as spec;
 ghost use Rattle.passkey_explain.specs.Described.{described_of};
 ghost use Rattle.passkey_kinds.specs.declared.wanted.Wanted.TheVariants as wanted;
-ghost use Rattle.passkey_explain.specs.DescribedData.{field_of, curve_name, described_key, described_member, described_parameter, first_parameter, has_curve, has_type, is_negative, key_type_name, named_or, parameter_name, second_parameter, type_in, type_of};
+ghost use Rattle.passkey_explain.specs.DescribedData.{field_of, curve_name, described_key, described_member, described_parameter};
+ghost use Rattle.passkey_explain.specs.DescribedData.{first_parameter, has_curve, has_type, is_negative, key_type_name, named_or};
+ghost use Rattle.passkey_explain.specs.DescribedData.{parameter_name, second_parameter, type_in, type_of};
 
 use crate::data_items::item::describe_item;
 use crate::description::{Description, FieldName};

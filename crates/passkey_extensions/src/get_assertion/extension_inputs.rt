@@ -3,7 +3,9 @@ ghost use Rattle.std.specs.Prelude.{nat_le, ◌≡◌, true};
 ghost use Rattle.passkey_kinds.specs.Numbered.{member_depth};
 ghost use Rattle.passkey_kinds.specs.Words.{places_of, depth};
 ghost use Rattle.passkey_core.specs.SignedOutputs.{where_some};
-ghost use Rattle.passkey_extensions.specs.GetExtensions.{GetExtensionsParts, get_extensions_fields, get_extensions_parts, no_get_extensions, has_get_extension, GetExtensionsFit, get_extensions_members, get_extensions_tree};
+ghost use Rattle.passkey_extensions.specs.GetExtensions.{GetExtensionsParts, get_extensions_fields, get_extensions_parts};
+ghost use Rattle.passkey_extensions.specs.GetExtensions.{no_get_extensions, has_get_extension, GetExtensionsFit};
+ghost use Rattle.passkey_extensions.specs.GetExtensions.{get_extensions_members, get_extensions_tree};
 
 use crate::{AuthenticatorPrfInputs, HmacGetSecretInput};
 use passkey_cbor::MAX_DEPTH;

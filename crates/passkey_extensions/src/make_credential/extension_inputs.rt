@@ -3,7 +3,9 @@ ghost use Rattle.std.specs.Prelude.{nat_le, ◌≡◌, true};
 ghost use Rattle.passkey_kinds.specs.Numbered.{member_depth};
 ghost use Rattle.passkey_kinds.specs.Words.{places_of, depth};
 ghost use Rattle.passkey_core.specs.SignedOutputs.{where_some};
-ghost use Rattle.passkey_extensions.specs.MakeExtensions.{MakeExtensionsParts, make_extensions_fields, make_extensions_parts, no_make_extensions, has_make_extension, MakeExtensionsFit, make_extensions_members, make_extensions_tree};
+ghost use Rattle.passkey_extensions.specs.MakeExtensions.{MakeExtensionsParts, make_extensions_fields, make_extensions_parts};
+ghost use Rattle.passkey_extensions.specs.MakeExtensions.{no_make_extensions, has_make_extension, MakeExtensionsFit};
+ghost use Rattle.passkey_extensions.specs.MakeExtensions.{make_extensions_members, make_extensions_tree};
 
 use crate::{AuthenticatorPrfInputs, HmacGetSecretInput};
 use passkey_cbor::MAX_DEPTH;

@@ -5,7 +5,9 @@ ghost use Rattle.passkey_cbor.specs.View.{item_of, pair_of};
 ghost use Rattle.passkey_core.specs.DataViews.{attested_parts};
 ghost use Rattle.passkey_cose.specs.KeyReading.{bytes_in};
 ghost use Rattle.passkey_cose.specs.Registered.{named_of};
-ghost use Rattle.passkey_repair.specs.json.AttestationObjects.{attested_algorithm, auth_data_among, auth_data_of, is_auth_data, item_at_front, key_algorithm, number_of, registration_from, registration_in, parts_of};
+ghost use Rattle.passkey_repair.specs.json.AttestationObjects.{attested_algorithm, auth_data_among, auth_data_of, is_auth_data};
+ghost use Rattle.passkey_repair.specs.json.AttestationObjects.{item_at_front, key_algorithm, number_of, registration_from};
+ghost use Rattle.passkey_repair.specs.json.AttestationObjects.{registration_in, parts_of};
 ghost use Rattle.serde_json.specs.View.{view};
 
 use passkey_bytes::Bytes;

@@ -1,7 +1,9 @@
 //! What a member with a deviation becomes.
 ghost use Rattle.std.specs.Prelude.{◌≡◌, if◌then◌else◌, IfOk, None, Some, option_map};
 ghost use Rattle.passkey_repair.specs.json.AttestationObjects.{registration_in, parts_of};
-ghost use Rattle.passkey_repair.specs.json.Changes.{become, become_algorithm, become_auth_data, become_if, change_for, if_absent, integer_for, is_absent_or_null, is_empty_array_member, is_null_member, leave_out, no_text, without_unknown_in};
+ghost use Rattle.passkey_repair.specs.json.Changes.{become, become_algorithm, become_auth_data, become_if, change_for, if_absent};
+ghost use Rattle.passkey_repair.specs.json.Changes.{integer_for, is_absent_or_null, is_empty_array_member, is_null_member};
+ghost use Rattle.passkey_repair.specs.json.Changes.{leave_out, no_text, without_unknown_in};
 ghost use Rattle.passkey_repair.specs.json.Edits.{change_of};
 ghost use Rattle.serde_json.specs.Data.{no_members, object};
 ghost use Rattle.serde_json.specs.View.{view};

@@ -3,7 +3,9 @@ ghost use Rattle.std.specs.Prelude.{◌≡◌, ◌<◌, IfOk, IfSome, length, ma
 ghost use Rattle.std.specs.List.{position};
 ghost use Rattle.passkey_cbor.specs.Same.{item_eq};
 ghost use Rattle.passkey_cbor.specs.View.{item_of, pair_of};
-ghost use Rattle.passkey_repair.specs.messages.Edit.{Edits, EditsMembers, added, changed, has as has_member, left_out, place_of as index_of, replace as replacing, add as adding, leave_out as leaving_out};
+ghost use Rattle.passkey_repair.specs.messages.Edit.{Edits, EditsMembers, added, changed, has as has_member, left_out};
+ghost use Rattle.passkey_repair.specs.messages.Edit.{place_of as index_of, replace as replacing, add as adding};
+ghost use Rattle.passkey_repair.specs.messages.Edit.{leave_out as leaving_out};
 ghost use Rattle.passkey_repair.specs.messages.Views.{change_of, key_item, literal_item};
 
 use crate::messages::{Key, Literal};

@@ -1,5 +1,6 @@
 //! The repairs of each message.
-ghost use Rattle.passkey_repair.specs.messages.Tables.{credential_request_edits, credential_response_edits, get_response_edits, make_request_edits, make_response_edits};
+ghost use Rattle.passkey_repair.specs.messages.Tables.{credential_request_edits, credential_response_edits, get_response_edits};
+ghost use Rattle.passkey_repair.specs.messages.Tables.{make_request_edits, make_response_edits};
 
 use crate::messages::{Change, Deviation, Key, Literal, Repair, Repairable};
 use passkey_commands::credential_management as credential_management;

@@ -1,4 +1,4 @@
--- The further members of client data, which the caller's type knows.
+-- The other members of client data, which the caller's type knows.
 use Rattle.std.specs.Prelude.{ℕ, Bool, true, ◌&&◌, ◌||◌, not, List, codes}
 use Rattle.std.specs.Str.{bytes_eq}
 use Rattle.passkey_webauthn_json.specs.client_data.MemberLists.{has_name}

@@ -22,7 +22,7 @@ use serde_json::error::Category;
 use std::alloc::Global;
 
 /// The client data whose hash an authenticator signs (WebAuthn Level 3, section 5.8.1). `E` has the
-/// further members that the caller knows.
+/// other members that the caller knows.
 #[derive(Debug, Drop)]
 pub struct CollectedClientData<E = ()> {
     /// `webauthn.create` for a registration, `webauthn.get` for a sign-in.
@@ -35,7 +35,7 @@ pub struct CollectedClientData<E = ()> {
     /// Whether the caller's origin differs from that of one of its ancestors; `None` means the
     /// member is absent.
     pub cross_origin: Option<bool>,
-    /// The further members that `E` knows.
+    /// The other members that `E` knows.
     pub extra_data: E,
     /// The unknown members: those that `E` doesn't know and that not all client data has.
     pub unknown_keys: IndexMap<String, Value>,

@@ -1,6 +1,7 @@
 //! Types of client data, decoded from JSON values and encoded as names.
 ghost use Rattle.std.specs.Prelude.{Some};
-ghost use Rattle.passkey_webauthn_json.specs.client_data.ClientDataType.{client_data_type_name, client_data_type_own, client_data_type_value, client_data_types};
+ghost use Rattle.passkey_webauthn_json.specs.client_data.ClientDataType.{client_data_type_name, client_data_type_own};
+ghost use Rattle.passkey_webauthn_json.specs.client_data.ClientDataType.{client_data_type_value, client_data_types};
 ghost use Rattle.passkey_json.specs.Shape.{leaf};
 ghost use Rattle.passkey_json.specs.declared.wanted.WantedJson.TheVariants.{Name};
 

@@ -1,4 +1,4 @@
-//! Further members of client data.
+//! Other members of client data.
 ghost use Rattle.std.specs.Prelude.{◌≡◌, ℕ, Bool, true, List, Result, IfOk, IsTrue};
 ghost use Rattle.passkey_webauthn_json.specs.client_data.ExtraData.{are_extra};
 ghost use Rattle.passkey_json.specs.Fault.{Fault, Gives};
@@ -58,7 +58,7 @@ pub trait ClientDataExtra: Drop {
         ensures { IfOk result (λ copy. copy ≡ self.now) };
 }
 
-/// A type that knows no further members.
+/// A type that knows no other members.
 impl ClientDataExtra for () {
     ghost use Rattle.std.specs.Prelude.{false, Ok, refl};
     ghost use Rattle.serde_json.specs.Data.{no_members};

@@ -1,6 +1,8 @@
 //! What a relying party prefers, decoded from JSON values and encoded.
 ghost use Rattle.std.specs.Prelude.{Some};
-ghost use Rattle.passkey_webauthn_json.specs.options.Preferences.{conveyance_name, conveyance_own, conveyance_value, conveyances, format_name, format_own, format_value, formats, hint_name, hint_own, hint_value, hints};
+ghost use Rattle.passkey_webauthn_json.specs.options.Preferences.{conveyance_name, conveyance_own, conveyance_value, conveyances};
+ghost use Rattle.passkey_webauthn_json.specs.options.Preferences.{format_name, format_own, format_value, formats, hint_name};
+ghost use Rattle.passkey_webauthn_json.specs.options.Preferences.{hint_own, hint_value, hints};
 ghost use Rattle.passkey_json.specs.Shape.{leaf};
 ghost use Rattle.passkey_json.specs.declared.wanted.WantedJson.TheVariants.{Name};
 

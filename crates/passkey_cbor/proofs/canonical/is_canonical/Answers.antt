@@ -3,7 +3,7 @@ use Rattle.passkey_cbor.specs.Canonical.{IsCanonical}
 use Rattle.passkey_cbor.specs.CanonicalReading.{BeginsItem}
 use Rattle.passkey_cbor.specs.LeadingItem.{max_depth}
 use Rattle.passkey_memory.proofs.Emptiness.{not_none}
-use Rattle.passkey_cbor.proofs.CanonicalItems.{only_one, is_whole, whole_is, is_false}
+use Rattle.passkey_cbor.proofs.items.CanonicalItems.{only_one, is_whole, whole_is, is_false}
 use Rattle.passkey_cbor.proofs.canonical.is_canonical.Goals as goal
 
 pub returns-in-None : goal.returns-in-None

@@ -1,7 +1,7 @@
 use Rattle.std.proofs.Common.{List, ap}
 use Rattle.passkey_cbor.specs.Item.{Item, array, map, tagged, items_of, pairs_of}
-use Rattle.passkey_cbor.proofs.Views.{item_of-Tag, item_of-Array, item_of-Map}
-use Rattle.passkey_cbor.proofs.Cloning.{array_grows, map_grows}
+use Rattle.passkey_cbor.proofs.building.Views.{item_of-Tag, item_of-Array, item_of-Map}
+use Rattle.passkey_cbor.proofs.building.Cloning.{array_grows, map_grows}
 use Rattle.passkey_memory.proofs.Failing.{on_err}
 use Rattle.passkey_cbor.proofs.clone.+clone.Goals as goal
 

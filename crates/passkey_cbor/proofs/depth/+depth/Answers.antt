@@ -1,5 +1,5 @@
 use Rattle.std.proofs.Common.{arith}
-use Rattle.passkey_cbor.proofs.Views.{item_of-Tag, item_of-Array, item_of-Map}
+use Rattle.passkey_cbor.proofs.building.Views.{item_of-Tag, item_of-Array, item_of-Map}
 use Rattle.passkey_cbor.proofs.depth.+depth.Goals as goal
 
 pub depth_of-returns-in-Map : goal.depth_of-returns-in-Map

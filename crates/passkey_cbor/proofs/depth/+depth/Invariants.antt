@@ -1,7 +1,7 @@
 use Rattle.std.proofs.Common.{drop}
 use Rattle.passkey_cbor.specs.Depth.{items_depth, pairs_depth}
 use Rattle.passkey_cbor.specs.View.{items_view, pairs_view}
-use Rattle.passkey_cbor.proofs.Deepest.{IsDeepest}
+use Rattle.passkey_cbor.proofs.items.Deepest.{IsDeepest}
 use Rattle.passkey_cbor.proofs.depth.+depth.Given as goal
 
 abbrev pub invariant-items_depth_of-loop-item : goal.invariant-items_depth_of-loop-item

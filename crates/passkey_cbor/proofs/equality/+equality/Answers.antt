@@ -1,6 +1,6 @@
 use Rattle.std.proofs.Common.{◌∙◌, arith}
-use Rattle.passkey_cbor.proofs.Comparing.{items_eq-end, pairs_eq-end}
-use Rattle.passkey_cbor.proofs.Views.{item_of-Array, item_of-Map}
+use Rattle.passkey_cbor.proofs.items.Comparing.{items_eq-end, pairs_eq-end}
+use Rattle.passkey_cbor.proofs.building.Views.{item_of-Array, item_of-Map}
 use Rattle.passkey_cbor.proofs.equality.+equality.Goals as goal
 
 pub equal-returns-in-Map-Map : goal.equal-returns-in-Map-Map

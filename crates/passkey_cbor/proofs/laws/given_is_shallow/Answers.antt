@@ -1,4 +1,4 @@
-use Rattle.passkey_cbor.proofs.Reach.{given_shallow}
+use Rattle.passkey_cbor.proofs.items.Reach.{given_shallow}
 use Rattle.passkey_cbor.proofs.laws.given_is_shallow.Goals as goal
 
 pub returns : goal.returns

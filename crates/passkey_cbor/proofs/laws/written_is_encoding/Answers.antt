@@ -1,4 +1,4 @@
-use Rattle.passkey_cbor.proofs.WrittenIsEncoding as encoded
+use Rattle.passkey_cbor.proofs.items.WrittenIsEncoding as encoded
 use Rattle.passkey_cbor.proofs.laws.written_is_encoding.Goals as goal
 
 pub returns : goal.returns

@@ -1,4 +1,4 @@
-use Rattle.passkey_cbor.proofs.Leaves.{headed_one}
+use Rattle.passkey_cbor.proofs.items.Leaves.{headed_one}
 use Rattle.passkey_cbor.proofs.leaf.leaf_len.Goals as goal
 
 pub returns-in-Some-short : goal.returns-in-Some-short

@@ -4,7 +4,7 @@ use Rattle.passkey_cbor.specs.Item.{number}
 use Rattle.passkey_cbor.specs.HeadsDecoded.{item_heads_by}
 use Rattle.passkey_cbor.specs.Reading.{simple_item, item_by}
 use Rattle.passkey_cbor.specs.declared.head.Head.TheVariants as head
-use Rattle.passkey_cbor.proofs.Leaves.{flat_leaf}
+use Rattle.passkey_cbor.proofs.items.Leaves.{flat_leaf}
 use Rattle.passkey_cbor.proofs.leaf.len_with.Goals as goal
 
 pub returns-in-Unsigned : goal.returns-in-Unsigned

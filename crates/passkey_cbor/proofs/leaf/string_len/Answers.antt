@@ -1,6 +1,6 @@
 use Rattle.std.proofs.Common.{◌+◌, ap, refl}
 use Rattle.passkey_cbor.specs.Lent.{string_head}
-use Rattle.passkey_cbor.proofs.Leaves.{piece_there, string_leaf}
+use Rattle.passkey_cbor.proofs.items.Leaves.{piece_there, string_leaf}
 use Rattle.passkey_cbor.proofs.leaf.string_len.Goals as goal
 
 pub returns : goal.returns

@@ -1,4 +1,4 @@
-use Rattle.passkey_cbor.proofs.Leaves.{headed_two}
+use Rattle.passkey_cbor.proofs.items.Leaves.{headed_two}
 use Rattle.passkey_cbor.proofs.leaf.two_byte_len.Goals as goal
 
 pub returns-in-Some-with_byte : goal.returns-in-Some-with_byte

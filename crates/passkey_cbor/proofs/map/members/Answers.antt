@@ -1,4 +1,4 @@
-use Rattle.passkey_cbor.proofs.MapMembers.{no_item, no_head, no_map, all_left, some_of_all}
+use Rattle.passkey_cbor.proofs.items.MapMembers.{no_item, no_head, no_map, all_left, some_of_all}
 use Rattle.passkey_cbor.proofs.map.members.Goals as goal
 
 pub returns-then-not-skip : goal.returns-then-not-skip

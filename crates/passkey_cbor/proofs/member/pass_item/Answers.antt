@@ -1,5 +1,5 @@
 use Rattle.std.proofs.Common.{length, sym, ap, arith}
-use Rattle.passkey_cbor.proofs.MapMembers.{lends_item, passed_within, not_passed}
+use Rattle.passkey_cbor.proofs.items.MapMembers.{lends_item, passed_within, not_passed}
 use Rattle.passkey_cbor.proofs.member.pass_item.Goals as goal
 
 pub returns-then-not-skip-clause-lends : goal.returns-then-not-skip-clause-lends

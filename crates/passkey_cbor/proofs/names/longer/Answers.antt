@@ -1,6 +1,6 @@
 use Rattle.std.proofs.Common.{◌≡◌, ◌∙◌, ◌++◌, ◌||◌, Bool, true, false, map, drop, ◌+◌, sym, ap}
 use Rattle.passkey_cbor.specs.Names.{begins, begins_one}
-use Rattle.passkey_cbor.proofs.Naming.{none_left, one_there}
+use Rattle.passkey_cbor.proofs.strings.Naming.{none_left, one_there}
 use Rattle.passkey_cbor.proofs.names.longer.Goals as goal
 
 pub loop-name-preserved : goal.loop-name-preserved

@@ -1,8 +1,8 @@
 use Rattle.std.proofs.Common.{◌∙◌, ℕ, ◌+◌, ◌-◌, ◌^◌, min, List, map, ap}
 use Rattle.passkey_cbor.specs.Names.{place_of}
 use Rattle.passkey_cbor.specs.CursorState.{CursorState, ahead}
-use Rattle.passkey_cbor.proofs.Joining.{name_of_chunks, looks_for, looks_for_none, whole_region}
-use Rattle.passkey_cbor.proofs.Naming.{place_of-told}
+use Rattle.passkey_cbor.proofs.strings.Joining.{name_of_chunks, looks_for, looks_for_none, whole_region}
+use Rattle.passkey_cbor.proofs.strings.Naming.{place_of-told}
 use Rattle.passkey_cbor.proofs.names.name_of.Goals as goal
 
 pub returns-in-Some-clause-name : goal.returns-in-Some-clause-name

@@ -1,8 +1,8 @@
 use Rattle.std.proofs.Common.{◌≡◌, true, false, map, refl, sym, ◌∙◌, ◌++◌}
 use Rattle.passkey_cbor.specs.Names.{begins_one}
-use Rattle.passkey_cbor.proofs.Chunks.{seeks_start, seeks_on, seeks_collects, sought_no_step, sought_no_chunk, sought_stops, sought_end}
-use Rattle.passkey_cbor.proofs.Joining.{no_step_sought, no_chunk_sought, none_sought, all_sought}
-use Rattle.passkey_cbor.proofs.Naming.{place_of-told}
+use Rattle.passkey_cbor.proofs.strings.Chunks.{seeks_start, seeks_on, seeks_collects, sought_no_step, sought_no_chunk, sought_stops, sought_end}
+use Rattle.passkey_cbor.proofs.strings.Joining.{no_step_sought, no_chunk_sought, none_sought, all_sought}
+use Rattle.passkey_cbor.proofs.strings.Naming.{place_of-told}
 use Rattle.passkey_cbor.proofs.names.place_of_joined.Goals as goal
 
 pub loop-head-init : goal.loop-head-init

@@ -1,5 +1,5 @@
 use Rattle.std.proofs.Common.{◌≡◌, ◌-◌, length, map, None}
-use Rattle.passkey_cbor.proofs.Chunks.{Seeks}
+use Rattle.passkey_cbor.proofs.strings.Chunks.{Seeks}
 use Rattle.passkey_cbor.proofs.names.place_of_joined.Given as goal
 
 abbrev pub invariant-loop-head : goal.invariant-loop-head

@@ -2,7 +2,7 @@ use Rattle.std.proofs.Common.{◌≡◌, ◌-◌, true, length, take, drop, ℕ,
 use Rattle.std.proofs.lemmas.Str.{IsUtf8-from_is_utf8}
 use Rattle.passkey_cbor.specs.Pieces.{LendsPiece, in_chunks}
 use Rattle.passkey_cbor.specs.CursorState.{ahead}
-use Rattle.passkey_cbor.proofs.Pieces.{no_step_there, no_chunk_there, at_end, splits_chunk, rest_there}
+use Rattle.passkey_cbor.proofs.strings.Pieces.{no_step_there, no_chunk_there, at_end, splits_chunk, rest_there}
 use Rattle.passkey_cbor.proofs.text_chunks.first_chunk.Goals as goal
 
 pub unwrap-requires : goal.unwrap-requires

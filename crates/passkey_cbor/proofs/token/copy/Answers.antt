@@ -2,8 +2,8 @@ use Rattle.std.proofs.Common.{◌∙◌, ℕ, ◌+◌, ◌-◌, ◌^◌, min, ap
 use Rattle.passkey_cbor.specs.Inside.{IsAllowed}
 use Rattle.std.proofs.lemmas.Result.{err_from_is_err_and}
 use Rattle.passkey_cbor.specs.CursorState.{CursorState, ahead}
-use Rattle.passkey_cbor.proofs.Strings.{is_allowed-is}
-use Rattle.passkey_cbor.proofs.Joining.{copies_chunks, looks_at_all, looks_at_some, looks_at_none, looks_at_some_none, whole_region}
+use Rattle.passkey_cbor.proofs.strings.Strings.{is_allowed-is}
+use Rattle.passkey_cbor.proofs.strings.Joining.{copies_chunks, looks_at_all, looks_at_some, looks_at_none, looks_at_some_none, whole_region}
 use Rattle.passkey_cbor.proofs.token.copy.Goals as goal
 
 pub returns-in_err-copied-in-Some-clause-copies : goal.returns-in_err-copied-in-Some-clause-copies

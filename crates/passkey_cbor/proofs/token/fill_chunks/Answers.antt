@@ -1,6 +1,6 @@
 use Rattle.std.proofs.Common.{◌∙◌, ℕ, ◌+◌, ◌-◌, ◌^◌, min, false, None, refl, ap}
 use Rattle.passkey_cbor.specs.CursorState.{CursorState, ahead}
-use Rattle.passkey_cbor.proofs.Joining.{looks_at_all}
+use Rattle.passkey_cbor.proofs.strings.Joining.{looks_at_all}
 use Rattle.passkey_cbor.proofs.token.fill_chunks.Goals as goal
 
 pub returns-clause-looks : goal.returns-clause-looks

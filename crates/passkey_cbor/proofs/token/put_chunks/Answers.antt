@@ -2,8 +2,8 @@ use Rattle.std.proofs.Common.{◌≡◌, ◌+◌, ◌≤◌, ◌∙◌, false, l
 use Rattle.std.proofs.lemmas.List.{length-take}
 use Rattle.passkey_cbor.specs.Inside.{Content}
 use Rattle.passkey_cbor.specs.CursorState.{ahead}
-use Rattle.passkey_cbor.proofs.Chunks.{collects_start, collects_on, counts_end}
-use Rattle.passkey_cbor.proofs.Filling.{step_there, chunk_there, chunk_fits, all_there, put_behind, put_long, fills}
+use Rattle.passkey_cbor.proofs.strings.Chunks.{collects_start, collects_on, counts_end}
+use Rattle.passkey_cbor.proofs.strings.Filling.{step_there, chunk_there, chunk_fits, all_there, put_after, put_long, fills}
 use Rattle.passkey_cbor.proofs.token.put_chunks.Goals as goal
 
 pub loop-head-init : goal.loop-head-init
@@ -67,7 +67,7 @@ loop-head-preserved c =
           c.step.new.self c.chunk.new.self c.in-Element.head (take c.loop-head.at c.loop-head.into)
           (take (c.loop-head.at + length c.in-Some.piece.now) c.put.new.into) c.in-Some.piece.now i.collects
           c.in-Element.ensures.reads c.in-Some.ensures.reads
-          (put_behind c.loop-head.at c.loop-head.into c.put.new.into c.in-Some.piece.now i.within c.put.ensures);
+          (put_after c.loop-head.at c.loop-head.into c.put.new.into c.in-Some.piece.now i.within c.put.ensures);
       within = omega (arith, fits, long);
       same = long ∙ i.same;
     }

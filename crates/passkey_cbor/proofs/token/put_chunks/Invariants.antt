@@ -1,5 +1,5 @@
 use Rattle.std.proofs.Common.{◌≡◌, ◌≤◌, ◌-◌, false, length, take, None}
-use Rattle.passkey_cbor.proofs.Chunks.{Collects}
+use Rattle.passkey_cbor.proofs.strings.Chunks.{Collects}
 use Rattle.passkey_cbor.proofs.token.put_chunks.Given as goal
 
 abbrev pub invariant-loop-head : goal.invariant-loop-head

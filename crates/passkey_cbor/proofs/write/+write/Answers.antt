@@ -1,7 +1,7 @@
 use Rattle.std.proofs.Common.{arith}
 use Rattle.passkey_cbor.specs.View.{item_of}
-use Rattle.passkey_cbor.proofs.Views.{item_of-Tag, item_of-Array, item_of-Map}
-use Rattle.passkey_cbor.proofs.Writing.{writes_items-begin, writes_items-more_at, writes_pairs-begin}
+use Rattle.passkey_cbor.proofs.building.Views.{item_of-Tag, item_of-Array, item_of-Map}
+use Rattle.passkey_cbor.proofs.items.Writing.{writes_items-begin, writes_items-more_at, writes_pairs-begin}
 use Rattle.passkey_cbor.proofs.write.+write.Goals as goal
 
 pub push_array-loop-item-init : goal.push_array-loop-item-init

@@ -1,6 +1,6 @@
 use Rattle.std.proofs.Common.{drop}
 use Rattle.passkey_cbor.specs.View.{items_view, pairs_view}
-use Rattle.passkey_cbor.proofs.Writing.{WritesItems, WritesPairs}
+use Rattle.passkey_cbor.proofs.items.Writing.{WritesItems, WritesPairs}
 use Rattle.passkey_cbor.proofs.write.+write.Given as goal
 
 abbrev pub invariant-push_array-loop-item : goal.invariant-push_array-loop-item

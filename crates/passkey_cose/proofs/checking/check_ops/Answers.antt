@@ -1,7 +1,7 @@
 use Rattle.std.proofs.Common.{rules, ◌<◌, map, length}
 use Rattle.std.proofs.lemmas.List.{length-map}
 use Rattle.passkey_cbor.specs.View.{item_of}
-use Rattle.passkey_cbor.proofs.Views.{item_of-Array}
+use Rattle.passkey_cbor.proofs.building.Views.{item_of-Array}
 use Rattle.passkey_cose.proofs.KeyLists.{ops_fault-array}
 use Rattle.passkey_cose.proofs.checking.check_ops.Goals as goal
 

@@ -1,7 +1,7 @@
 use Rattle.std.proofs.Common.{drop}
 use Rattle.passkey_cbor.specs.Depth.{pairs_depth}
 use Rattle.passkey_cbor.specs.Item.{pairs_of}
-use Rattle.passkey_cbor.proofs.Deepest.{IsDeepest}
+use Rattle.passkey_cbor.proofs.items.Deepest.{IsDeepest}
 use Rattle.passkey_cose.specs.KeyParams.{params_of}
 use Rattle.passkey_cose.proofs.readable.params_depth.Given as goal
 

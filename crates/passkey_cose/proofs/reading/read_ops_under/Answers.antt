@@ -1,7 +1,7 @@
 use Rattle.std.proofs.Common.{rules, ◌≡◌, map, Some, sym}
 use Rattle.passkey_cbor.specs.Item.{array, items_of}
 use Rattle.passkey_cbor.specs.View.{item_of, pair_of}
-use Rattle.passkey_cbor.proofs.Views.{item_of-Array}
+use Rattle.passkey_cbor.proofs.building.Views.{item_of-Array}
 use Rattle.passkey_cose.specs.KeyReading.{under}
 use Rattle.passkey_cose.proofs.KeyLists.{ops_in-array}
 use Rattle.passkey_cose.proofs.reading.read_ops_under.Goals as goal

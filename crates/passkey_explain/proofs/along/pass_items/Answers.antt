@@ -9,7 +9,7 @@ loop-i-init c = record { same = refl; each = λ xs to l enough. items_begin xs _
 
 pub loop-i-preserved : goal.loop-i-preserved
 loop-i-preserved c = record {
-  same = c.if-not-skip.ensures.went.same ∙ c.loop-i.invariant.same;
+  same = c.if-not-skip.ensures.moves.same ∙ c.loop-i.invariant.same;
   each = λ xs to l enough.
       let less : c.loop-i.i < length xs = omega (arith, enough, c.loop-i-test.true) in
       let n = next_item xs c.loop-i.i _ _ _ to less (c.loop-i.invariant.each xs to l enough) in

@@ -110,23 +110,23 @@ put_elements-loop-index-preserved g t c = let root = tested g.M.FromCbor.typed i
     let n = c.loop-index.index in
     let longer = one_more_step c.args.path.now _ (code.Element n) c.in_ok-inner.ensures in
     let deref = ap (map step_of) c.deref.ensures.value ∙ longer in
-    let went = c.in_ok-put_dropped.ensures.went in
-    let back = ap (λ (w : CursorState). w.bytes) c.go_back.ensures ∙ went.same ∙ c.loop-index.invariant.went.same in
+    let moves = c.in_ok-put_dropped.ensures.moves in
+    let back = ap (λ (w : CursorState). w.bytes) c.go_back.ensures ∙ moves.same ∙ c.loop-index.invariant.moves.same in
     let start = ap (λ (w : CursorState). w.place) c.go_back.ensures ∙ c.place-place.ensures in
     record {
-      went = record {
-        same = c.skip.ensures.went.same ∙ back;
-        forward = omega (arith, c.loop-index.invariant.went.forward, start, c.skip.ensures.went.forward);
+      moves = record {
+        same = c.skip.ensures.moves.same ∙ back;
+        forward = omega (arith, c.loop-index.invariant.moves.forward, start, c.skip.ensures.moves.forward);
       };
       lists = λ u reaches.
           let of = dropped u.shape in
           let left = elements_left of (map step_of c.args.path.now) _ n _ _ _ at deref in
           goes_on c.loop-index.dropped.items c.put_dropped.new.dropped.items _ _ _ _
           (c.in_ok-put_dropped.ensures.lists u reaches) left (c.loop-index.invariant.lists u reaches);
-      lie = λ whole i bytes same is h all.
-          let before = c.loop-index.invariant.lie whole i bytes same is h all in
+      extents = λ whole i bytes same is h all.
+          let before = c.loop-index.invariant.extents whole i bytes same is h all in
           let next = element_next i _ n _ _ is at in
-          let now : c.loop-index.cursor.bytes ≡ bytes = c.loop-index.invariant.went.same ∙ same in
+          let now : c.loop-index.cursor.bytes ≡ bytes = c.loop-index.invariant.moves.same ∙ same in
           let p = before.0 in
           let stands = next_stands h n c.loop-index.cursor.place p _ next (element n) _ refl deref in
           let there = next_there h n c.loop-index.cursor.place p _ next in
@@ -136,13 +136,13 @@ put_elements-loop-index-preserved g t c = let root = tested g.M.FromCbor.typed i
           (subst (λ (bs : List ℕ). IsEncodedAt (item_of x.result) bs c.go_back.new.self.place
           (next_end h n c.loop-index.cursor.place p _ next)) (sym (back ∙ same)) here) in (
             next_passed h n c.loop-index.cursor.place p _ next _ passes.place,
-            c.in_ok-put_dropped.ensures.lie whole bytes now stands before.1,
+            c.in_ok-put_dropped.ensures.extents whole bytes now stands before.1,
           );
     }
 
-pub put_elements-returns-clause-lie : goal.put_elements-returns-clause-lie
-put_elements-returns-clause-lie g t c = λ whole i bytes same is h all.
-    (c.loop-index.invariant.lie whole i bytes same is h all).1
+pub put_elements-returns-clause-extents : goal.put_elements-returns-clause-extents
+put_elements-returns-clause-extents g t c = λ whole i bytes same is h all.
+    (c.loop-index.invariant.extents whole i bytes same is h all).1
 
 pub put_list-returns-in_ok-inner-in-Array-clause-lists : goal.put_list-returns-in_ok-inner-in-Array-clause-lists
 put_list-returns-in_ok-inner-in-Array-clause-lists g t c = λ u reaches.
@@ -154,13 +154,13 @@ put_list-returns-in_ok-inner-in-Array-clause-lists g t c = λ u reaches.
     (array_leaves (dropped u.shape) (map step_of c.args.path.now) (item_of c.args.value.now) _ is)
     (c.put_elements.ensures.lists u inner)
 
-pub put_list-returns-in_ok-inner-in-Array-clause-lie : goal.put_list-returns-in_ok-inner-in-Array-clause-lie
-put_list-returns-in_ok-inner-in-Array-clause-lie g t c = λ whole bytes same stands all.
+pub put_list-returns-in_ok-inner-in-Array-clause-extents : goal.put_list-returns-in_ok-inner-in-Array-clause-extents
+put_list-returns-in_ok-inner-in-Array-clause-extents g t c = λ whole bytes same stands all.
     let is = ap item_of c.in-Array.is ∙ item_of-Array c.in-Array.elements
     ∙ ap (λ (vs : List Value). array (items_of (map item_of vs))) (sym c.deref-in-Array.ensures.value) in
     let o = head_opens whole (item_of c.args.value.now) (map step_of c.args.path.now) bytes c.args.cursor.now c.head.new.self
-    c.head.result same stands c.head.ensures.found c.head.ensures.opens c.head.ensures.went in
-    c.put_elements.ensures.lie whole (item_of c.args.value.now) bytes (c.head.ensures.went.same ∙ same)
+    c.head.result same stands c.head.ensures.found c.head.ensures.opens c.head.ensures.moves in
+    c.put_elements.ensures.extents whole (item_of c.args.value.now) bytes (c.head.ensures.moves.same ∙ same)
     (array_parts (item_of c.args.value.now) _ is) o all
 
 pub put_list-returns-in_default : goal.put_list-returns-in_default
@@ -168,8 +168,8 @@ put_list-returns-in_default g t c = record {
   lists = λ u reaches. adds_as [] _ c.args.dropped.now.items _
       (no_array_leaves (dropped u.shape) (map step_of c.args.path.now) (item_of c.args.value.now)
       (no_array c.args.value.now c.in_default.not-Array)) (adds_nothing c.args.dropped.now.items);
-  lie = λ whole bytes same stands all. all;
-  went = record { same = refl; forward = omega arith };
+  extents = λ whole bytes same stands all. all;
+  moves = record { same = refl; forward = omega arith };
 }
 
 -- ---- maps
@@ -182,13 +182,13 @@ put_map-returns-in-Map-clause-lists g t c = λ of leaves.
     (map_leaves (steps_by c.args.keys.now) of (map step_of c.args.path.now) (item_of c.args.value.now) _ is)
     (c.put_pairs.ensures.lists of leaves)
 
-pub put_map-returns-in-Map-clause-lie : goal.put_map-returns-in-Map-clause-lie
-put_map-returns-in-Map-clause-lie g t c = λ whole bytes same stands all.
+pub put_map-returns-in-Map-clause-extents : goal.put_map-returns-in-Map-clause-extents
+put_map-returns-in-Map-clause-extents g t c = λ whole bytes same stands all.
     let is = ap item_of c.in-Map.is ∙ item_of-Map c.in-Map.pairs
     ∙ ap (λ (ps : List (Value × Value)). item.map (pairs_of (map pair_of ps))) (sym c.deref.ensures.value) in
     let o = head_opens whole (item_of c.args.value.now) (map step_of c.args.path.now) bytes c.args.cursor.now c.head.new.self
-    c.head.result same stands c.head.ensures.found c.head.ensures.opens c.head.ensures.went in
-    c.put_pairs.ensures.lie whole (item_of c.args.value.now) bytes (c.head.ensures.went.same ∙ same)
+    c.head.result same stands c.head.ensures.found c.head.ensures.opens c.head.ensures.moves in
+    c.put_pairs.ensures.extents whole (item_of c.args.value.now) bytes (c.head.ensures.moves.same ∙ same)
     (map_parts (item_of c.args.value.now) _ is) o all
 
 pub put_map-returns-in_default : goal.put_map-returns-in_default
@@ -196,8 +196,8 @@ put_map-returns-in_default g t c = record {
   lists = λ of leaves. adds_as [] _ c.args.dropped.now.items _
       (no_map_leaves (steps_by c.args.keys.now) of (map step_of c.args.path.now) (item_of c.args.value.now)
       (not_a_map c.args.value.now c.in_default.not-Map)) (adds_nothing c.args.dropped.now.items);
-  lie = λ whole bytes same stands all. all;
-  went = record { same = refl; forward = omega arith };
+  extents = λ whole bytes same stands all. all;
+  moves = record { same = refl; forward = omega arith };
 }
 
 pub put_pairs-loop-index-preserved : goal.put_pairs-loop-index-preserved
@@ -206,21 +206,21 @@ put_pairs-loop-index-preserved g t c = let root = tested g.M.FromCbor.typed in
     let at = mapped_at pair_of c.args.pairs.now _ m.result m.is c.loop-index-test.true in
     let n = c.loop-index.index in
     let p0 = c.loop-index.cursor.place in
-    let went = c.in_ok-put_value.ensures.went in
-    let same0 = c.skip.ensures.went.same ∙ c.loop-index.invariant.went.same in
-    let back = ap (λ (w : CursorState). w.bytes) c.go_back.ensures ∙ went.same ∙ same0 in
+    let moves = c.in_ok-put_value.ensures.moves in
+    let same0 = c.skip.ensures.moves.same ∙ c.loop-index.invariant.moves.same in
+    let back = ap (λ (w : CursorState). w.bytes) c.go_back.ensures ∙ moves.same ∙ same0 in
     let start = ap (λ (w : CursorState). w.place) c.go_back.ensures ∙ c.place-place.ensures in
     let steps = steps_by c.args.keys.now in
     let path = map step_of c.args.path.now in
     record {
-      went = record {
-        same = c.skip-in-loop-index.ensures.went.same ∙ back;
+      moves = record {
+        same = c.skip-in-loop-index.ensures.moves.same ∙ back;
         forward = omega (
           arith,
-          c.loop-index.invariant.went.forward,
-          c.skip.ensures.went.forward,
+          c.loop-index.invariant.moves.forward,
+          c.skip.ensures.moves.forward,
           start,
-          c.skip-in-loop-index.ensures.went.forward,
+          c.skip-in-loop-index.ensures.moves.forward,
         );
       };
       lists = λ of leaves.
@@ -230,13 +230,13 @@ put_pairs-loop-index-preserved g t c = let root = tested g.M.FromCbor.typed in
           let left = pairs_left steps of path _ n _ _ _ at c.step_to-step.ensures in
           goes_on c.loop-index.dropped.items c.put_value.new.dropped.items _ _ _ _
           (c.in_ok-put_value.ensures.lists of by) left (c.loop-index.invariant.lists of leaves);
-      lie = λ whole i bytes same is h all.
-          let before = c.loop-index.invariant.lie whole i bytes same is h all in
+      extents = λ whole i bytes same is h all.
+          let before = c.loop-index.invariant.extents whole i bytes same is h all in
           let key_at = key_next i _ n _ _ is at in
           let value_at = value_next i _ n _ _ is at in
           let kp = before.0 in
           let key_there = next_there h (n + n) p0 kp _ key_at in
-          let now : c.loop-index.cursor.bytes ≡ bytes = c.loop-index.invariant.went.same ∙ same in
+          let now : c.loop-index.cursor.bytes ≡ bytes = c.loop-index.invariant.moves.same ∙ same in
           let key_passes = c.skip.ensures.passes _ _
           (subst (λ (bs : List ℕ). IsEncodedAt (item_of m.result.0) bs p0 (next_end h (n + n) p0 kp _ key_at)) (sym now)
           key_there) in
@@ -257,13 +257,13 @@ put_pairs-loop-index-preserved g t c = let root = tested g.M.FromCbor.typed in
           let two : n + n + 1 + 1 ≡ n + 1 + (n + 1) = omega arith in (
             subst (λ (k : ℕ). PassedItems (parts_of i) k bytes c.args.cursor.now.place c.skip-in-loop-index.new.self.place
                 h.end) two done,
-            c.in_ok-put_value.ensures.lie whole bytes (same0 ∙ same) stands before.1,
+            c.in_ok-put_value.ensures.extents whole bytes (same0 ∙ same) stands before.1,
           );
     }
 
-pub put_pairs-returns-clause-lie : goal.put_pairs-returns-clause-lie
-put_pairs-returns-clause-lie g t c = λ whole i bytes same is h all.
-    (c.loop-index.invariant.lie whole i bytes same is h all).1
+pub put_pairs-returns-clause-extents : goal.put_pairs-returns-clause-extents
+put_pairs-returns-clause-extents g t c = λ whole i bytes same is h all.
+    (c.loop-index.invariant.extents whole i bytes same is h all).1
 
 pub put_value-returns-in_ok-longer-in-Some-clause-lists : goal.put_value-returns-in_ok-longer-in-Some-clause-lists
 put_value-returns-in_ok-longer-in-Some-clause-lists g t c = λ of leaves.
@@ -278,12 +278,12 @@ put_value-returns-in_ok-longer-in-Some-clause-lists g t c = λ of leaves.
     (ap (option_map numbered_step) c.in-Some.is) by.1.1 path)
     (c.put_dropped.ensures.lists by.0 inner)
 
-pub put_value-returns-in_ok-longer-in-Some-clause-lie : goal.put_value-returns-in_ok-longer-in-Some-clause-lie
-put_value-returns-in_ok-longer-in-Some-clause-lie g t c = λ whole bytes same stands all.
+pub put_value-returns-in_ok-longer-in-Some-clause-extents : goal.put_value-returns-in_ok-longer-in-Some-clause-extents
+put_value-returns-in_ok-longer-in-Some-clause-extents g t c = λ whole bytes same stands all.
     let i = item_of c.args.value.now in
     let place = c.args.cursor.now.place in
     let here : Stands whole (map step_of c.args.path.now ++ step_of c.in-Some.step ∷ []) i bytes place =
     rw c.in-Some.is at stands in
     let longer = one_more_step c.args.path.now _ c.in-Some.step c.in_ok-longer-in-Some.ensures in
     let path = ap (map step_of) c.deref-in-Some.ensures.value ∙ longer in
-    c.put_dropped.ensures.lie whole bytes same (subst (λ (q : List Step). Stands whole q i bytes place) (sym path) here) all
+    c.put_dropped.ensures.extents whole bytes same (subst (λ (q : List Step). Stands whole q i bytes place) (sym path) here) all

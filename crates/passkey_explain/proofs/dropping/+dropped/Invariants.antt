@@ -11,12 +11,12 @@ use Rattle.passkey_explain.proofs.dropping.+dropped.Given as goal
 
 abbrev pub invariant-put_elements-loop-index : goal.invariant-put_elements-loop-index
 invariant-put_elements-loop-index g l = record {
-  went : GoesOn l.fn.cursor l.cursor;
+  moves : GoesOn l.fn.cursor l.cursor;
   lists : (t : Tested) → reached l.way (tested g.M.FromCbor.typed) ≡ Some t → (
       let left = dropped_elements (dropped t.shape) (map step_of l.path) in
       let xs = map item_of l.elements in
       map left_out l.dropped.items ++ left l.index (drop l.index xs) ≡ map left_out l.fn.dropped.items ++ left 0 xs);
-  lie : (whole i : Item) (bytes : List ℕ) → l.fn.cursor.bytes ≡ bytes → parts_of i ≡ map item_of l.elements
+  extents : (whole i : Item) (bytes : List ℕ) → l.fn.cursor.bytes ≡ bytes → parts_of i ≡ map item_of l.elements
       → (h : IsOpened whole (map step_of l.path) i bytes l.fn.cursor.place)
       → All (LiesIn whole bytes) l.fn.dropped.items
       → PassedItems (parts_of i) l.index bytes l.fn.cursor.place l.cursor.place h.end
@@ -25,12 +25,12 @@ invariant-put_elements-loop-index g l = record {
 
 abbrev pub invariant-put_pairs-loop-index : goal.invariant-put_pairs-loop-index
 invariant-put_pairs-loop-index g l = record {
-  went : GoesOn l.fn.cursor l.cursor;
+  moves : GoesOn l.fn.cursor l.cursor;
   lists : (of : ℕ → Leaving) → Leaves (tested g.M.FromCbor.typed) l.way of (steps_by l.keys) → (
       let left = dropped_pairs (steps_by l.keys) of (map step_of l.path) in
       let ms = map pair_of l.pairs in
       map left_out l.dropped.items ++ left l.index (drop l.index ms) ≡ map left_out l.fn.dropped.items ++ left 0 ms);
-  lie : (whole i : Item) (bytes : List ℕ) → l.fn.cursor.bytes ≡ bytes → parts_of i ≡ turns (map pair_of l.pairs)
+  extents : (whole i : Item) (bytes : List ℕ) → l.fn.cursor.bytes ≡ bytes → parts_of i ≡ turns (map pair_of l.pairs)
       → (h : IsOpened whole (map step_of l.path) i bytes l.fn.cursor.place)
       → All (LiesIn whole bytes) l.fn.dropped.items
       → PassedItems (parts_of i) (l.index + l.index) bytes l.fn.cursor.place l.cursor.place h.end

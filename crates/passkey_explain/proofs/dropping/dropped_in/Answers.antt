@@ -29,6 +29,6 @@ returns g c =
     record {
       list = list;
       left = All-same (IsLeftOut root i) _ _ list (shape_left root i (shape_of t) root [] refl (λ n. refl) (λ u h. h) [] i refl);
-      lie = c.in_ok-put_dropped.ensures.lie i bytes same stands
+      extents = c.in_ok-put_dropped.ensures.extents i bytes same stands
           (All-same (LiesIn i bytes) _ [] c.new-dropped.ensures.items (All-nil (LiesIn i bytes)));
     }

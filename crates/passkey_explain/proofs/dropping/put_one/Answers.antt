@@ -7,8 +7,8 @@ use Rattle.passkey_explain.specs.declared.dropping.DroppedItem.{DroppedItem}
 use Rattle.passkey_kinds.specs.Words.{item_of}
 use Rattle.passkey_explain.proofs.dropping.put_one.Goals as goal
 
-pub returns-clause-lie : goal.returns-clause-lie
-returns-clause-lie g c = λ whole bytes same stands all.
+pub returns-clause-extents : goal.returns-clause-extents
+returns-clause-extents g c = λ whole bytes same stands all.
     let i = item_of c.args.value.now in
     let there = subst (λ (bs : List ℕ). IsEncodedAt i bs c.args.cursor.now.place stands.to) (sym same) stands.there in
     let e = c.pass-extent.ensures.passes i stands.to there in

@@ -26,13 +26,13 @@ returns-in-Err-pass_extensions_where c =
     let passed : fixed_in bytes ≡ Ok (flags, rest) = sym c.in-Ok.ensures in
     let has_attested : c.contains-has_attested.result ≡ has_flag attested_flag flags = search rules in
     let has_extensions : c.contains-has_extensions.result ≡ has_flag extensions_flag flags = search rules in
-    let behind = c.in-Ok-pass_attested_where.behind.now in
-    let attested = subst (λ (b : Bool). ReadsTo (ReadsWhere b ReadsAttested rest) behind) has_attested
+    let following = c.in-Ok-pass_attested_where.following.now in
+    let attested = subst (λ (b : Bool). ReadsTo (ReadsWhere b ReadsAttested rest) following) has_attested
     c.in-Ok-pass_attested_where.ensures in
-    stops_more (BlamesWhere c.contains-has_extensions.result (BlamesExtensions bytes behind)) (BlamesData bytes)
+    stops_more (BlamesWhere c.contains-has_extensions.result (BlamesExtensions bytes following)) (BlamesData bytes)
     c.in-Err-pass_extensions_where.stop
-    (λ r b. extensions_blamed bytes flags rest passed behind attested r
-    (subst (λ (f : Bool). BlamesWhere f (BlamesExtensions bytes behind) r) has_extensions b))
+    (λ r b. extensions_blamed bytes flags rest passed following attested r
+    (subst (λ (f : Bool). BlamesWhere f (BlamesExtensions bytes following) r) has_extensions b))
     c.in-Err-pass_extensions_where.ensures
 
 pub returns-then-is_empty : goal.returns-then-is_empty
@@ -43,13 +43,13 @@ returns-then-is_empty c =
     let passed : fixed_in bytes ≡ Ok (flags, rest) = sym c.in-Ok.ensures in
     let has_attested : c.contains-has_attested.result ≡ has_flag attested_flag flags = search rules in
     let has_extensions : c.contains-has_extensions.result ≡ has_flag extensions_flag flags = search rules in
-    let behind = c.in-Ok-pass_attested_where.behind.now in
-    let attested = subst (λ (b : Bool). ReadsTo (ReadsWhere b ReadsAttested rest) behind) has_attested
+    let following = c.in-Ok-pass_attested_where.following.now in
+    let attested = subst (λ (b : Bool). ReadsTo (ReadsWhere b ReadsAttested rest) following) has_attested
     c.in-Ok-pass_attested_where.ensures in
     let last = c.in-Ok-pass_extensions_where.last.now in
-    let extensions = subst (λ (b : Bool). ReadsTo (ReadsWhere b (ReadsItem read_map) behind) last) has_extensions
+    let extensions = subst (λ (b : Bool). ReadsTo (ReadsWhere b (ReadsItem read_map) following) last) has_extensions
     c.in-Ok-pass_extensions_where.ensures in
-    data_read bytes flags rest passed behind attested last extensions (none_left last (sym c.if-is_empty.ensures))
+    data_read bytes flags rest passed following attested last extensions (none_left last (sym c.if-is_empty.ensures))
 
 pub returns-else-is_empty : goal.returns-else-is_empty
 returns-else-is_empty c =
@@ -59,11 +59,11 @@ returns-else-is_empty c =
     let passed : fixed_in bytes ≡ Ok (flags, rest) = sym c.in-Ok.ensures in
     let has_attested : c.contains-has_attested.result ≡ has_flag attested_flag flags = search rules in
     let has_extensions : c.contains-has_extensions.result ≡ has_flag extensions_flag flags = search rules in
-    let behind = c.in-Ok-pass_attested_where.behind.now in
-    let attested = subst (λ (b : Bool). ReadsTo (ReadsWhere b ReadsAttested rest) behind) has_attested
+    let following = c.in-Ok-pass_attested_where.following.now in
+    let attested = subst (λ (b : Bool). ReadsTo (ReadsWhere b ReadsAttested rest) following) has_attested
     c.in-Ok-pass_attested_where.ensures in
     let last = c.in-Ok-pass_extensions_where.last.now in
-    let extensions = subst (λ (b : Bool). ReadsTo (ReadsWhere b (ReadsItem read_map) behind) last) has_extensions
+    let extensions = subst (λ (b : Bool). ReadsTo (ReadsWhere b (ReadsItem read_map) following) last) has_extensions
     c.in-Ok-pass_extensions_where.ensures in
-    trailing_blamed bytes flags rest passed behind attested last extensions c.bytes_follow.result
+    trailing_blamed bytes flags rest passed following attested last extensions c.bytes_follow.result
     (some_left last (sym c.if-is_empty.ensures), c.bytes_follow.ensures)

@@ -1,5 +1,5 @@
 use Rattle.std.proofs.Common.{◌∙◌, map, Some, ap}
-use Rattle.passkey_cbor.proofs.Views.{item_of-Map}
+use Rattle.passkey_cbor.proofs.building.Views.{item_of-Map}
 use Rattle.passkey_cbor.specs.View.{item_of, pair_of}
 use Rattle.passkey_explain_data.proofs.KeyVerdict.{blamed_pair, blamed_type, verdict_of}
 use Rattle.passkey_explain_data.proofs.key.explain_key.Goals as goal

@@ -15,11 +15,11 @@ returns c = λ d end r.
     let rest = c.in-Ok.fixed.1.now in
     let has_attested : c.contains-has_attested.result ≡ has_flag attested_flag flags = search rules in
     let has_extensions : c.contains-has_extensions.result ≡ has_flag extensions_flag flags = search rules in
-    let behind = c.behind_attested_where-behind.result.now in
-    let attested = subst (λ (b : Bool). EndsAt (ReadsWhere b ReadsAttested rest) behind) has_attested
-    c.behind_attested_where-behind.ensures in
-    let last = c.behind_extensions_where-last.result.now in
-    let extensions = subst (λ (b : Bool). EndsAt (ReadsWhere b (ReadsItem read_map) behind) last) has_extensions
-    c.behind_extensions_where-last.ensures in
+    let following = c.after_attested_where-following.result.now in
+    let attested = subst (λ (b : Bool). EndsAt (ReadsWhere b ReadsAttested rest) following) has_attested
+    c.after_attested_where-following.ensures in
+    let last = c.after_extensions_where-last.result.now in
+    let extensions = subst (λ (b : Bool). EndsAt (ReadsWhere b (ReadsItem read_map) following) last) has_extensions
+    c.after_extensions_where-last.ensures in
     c.offset_in.ensures ∙ ap (λ (l : List ℕ). length bytes - length l)
-    (data_ends d end bytes flags rest behind last (sym c.in-Ok.ensures) attested extensions r)
+    (data_ends d end bytes flags rest following last (sym c.in-Ok.ensures) attested extensions r)

@@ -9,9 +9,9 @@ pub returns-in-Ok : goal.returns-in-Ok
 returns-in-Ok c =
     let whole = c.args.whole.now in
     let rest = c.args.rest.now in
-    let behind = c.in-Ok.behind.now in
+    let following = c.in-Ok.following.now in
     let passed = sym c.in-Ok.ensures in
-    passes_more (λ (after : Bor (List ℕ)). ReadsTo (ReadsItem read_key behind) after.now)
-    (λ (after : Bor (List ℕ)). ReadsTo (ReadsAttested rest) after.now) (BlamesKey whole behind)
-    (BlamesAttested whole rest) c.pass_key.result (λ after h. attested_read whole rest behind after.now passed h)
-    (λ r b. attested_refused whole rest behind r passed b) c.pass_key.ensures
+    passes_more (λ (after : Bor (List ℕ)). ReadsTo (ReadsItem read_key following) after.now)
+    (λ (after : Bor (List ℕ)). ReadsTo (ReadsAttested rest) after.now) (BlamesKey whole following)
+    (BlamesAttested whole rest) c.pass_key.result (λ after h. attested_read whole rest following after.now passed h)
+    (λ r b. attested_refused whole rest following r passed b) c.pass_key.ensures

@@ -1,5 +1,5 @@
 use Rattle.std.proofs.Common.{◌≡◌, ◌∙◌, ℕ, List, Ok, ap, refl, sym, subst}
-use Rattle.passkey_cbor.proofs.Views.{item_of-Map}
+use Rattle.passkey_cbor.proofs.building.Views.{item_of-Map}
 use Rattle.passkey_cbor.specs.Item.{Item, map}
 use Rattle.passkey_cbor.specs.View.{item_of, pairs_view}
 use Rattle.passkey_core.specs.DataReading.{read_map, ReadsItem}

@@ -17,9 +17,9 @@ returns-in_err-add-clause-reads g c = λ xs to l.
 pub loop-alloc-preserved : goal.loop-alloc-preserved
 loop-alloc-preserved g c = record {
   onward = onward_then _ _ _ (onward_then _ _ _ c.loop-alloc.invariant.onward
-      (onward_of c.loop-alloc.cursor c.more.new.self c.loop-alloc-test.ensures.went)) c.in_ok-add.ensures.onward;
+      (onward_of c.loop-alloc.cursor c.more.new.self c.loop-alloc-test.ensures.moves)) c.in_ok-add.ensures.onward;
   counts = counts_then _ _ _ (counts_then _ _ _ c.loop-alloc.invariant.counts
-      (counts_more _ _ _ _ _ c.loop-alloc-test.ensures.walks.looks c.loop-alloc-test.ensures.went.heads))
+      (counts_more _ _ _ _ _ c.loop-alloc-test.ensures.walks.looks c.loop-alloc-test.ensures.moves.heads))
       c.in_ok-add.ensures.further.counts;
   each = λ xs to l.
       let b = c.more.new.self in
@@ -30,23 +30,23 @@ loop-alloc-preserved g c = record {
       let gone = gone_on g.C.Collect.way.next _ n.first e.rest n.others _ n.whole added.answers in
       one_more_done e b _ c.add.new.cursor walks.looks n (g.C.Collect.way.kept n.first) refl added.spends added.ends
       c.in_ok-add.ensures.onward.same (g.C.Collect.way.least n.first) refl
-      (rises (onward_of c.loop-alloc.cursor b c.loop-alloc-test.ensures.went)) added.counts (sym gone ∙ e.done);
+      (rises (onward_of c.loop-alloc.cursor b c.loop-alloc-test.ensures.moves)) added.counts (sym gone ∙ e.done);
 }
 
 pub returns-clause-reads : goal.returns-clause-reads
 returns-clause-reads g c = λ xs to l.
     let walks = c.loop-alloc-test.ensures.walks in
     let ended = each_done (c.loop-alloc.invariant.each xs to l) c.more.new.self (g.C.Collect.way.walked _ _ _ _ _ walks)
-    walks.looks (omega arith) refl (rises (onward_of c.loop-alloc.cursor c.more.new.self c.loop-alloc-test.ensures.went)) in
+    walks.looks (omega arith) refl (rises (onward_of c.loop-alloc.cursor c.more.new.self c.loop-alloc-test.ensures.moves)) in
     grind (arith, ended)
 
 pub returns-clause-least : goal.returns-clause-least
 returns-clause-least g c = λ xs to l.
     let walks = c.loop-alloc-test.ensures.walks in
     let ended = each_done (c.loop-alloc.invariant.each xs to l) c.more.new.self (g.C.Collect.way.walked _ _ _ _ _ walks)
-    walks.looks (omega arith) refl (rises (onward_of c.loop-alloc.cursor c.more.new.self c.loop-alloc-test.ensures.went)) in
+    walks.looks (omega arith) refl (rises (onward_of c.loop-alloc.cursor c.more.new.self c.loop-alloc-test.ensures.moves)) in
     ended.counts
 
 pub returns-clause-counts : goal.returns-clause-counts
 returns-clause-counts g c = counts_then _ _ _ c.loop-alloc.invariant.counts
-    (counts_more _ _ _ _ _ c.loop-alloc-test.ensures.walks.looks c.loop-alloc-test.ensures.went.heads)
+    (counts_more _ _ _ _ _ c.loop-alloc-test.ensures.walks.looks c.loop-alloc-test.ensures.moves.heads)

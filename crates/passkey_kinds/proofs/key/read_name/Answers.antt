@@ -33,7 +33,7 @@ returns-in-Some-bytes-clause-finds c = λ b key to l.
 pub returns-in-Some-bytes-clause-further : goal.returns-in-Some-bytes-clause-further
 returns-in-Some-bytes-clause-further c =
     let missed = c.in-None.ensures in
-    further_from _ _ _ (onward_of _ _ missed.went) missed.front.place
+    further_from _ _ _ (onward_of _ _ missed.moves) missed.front.place
     (looked_further _ _ _ _ false c.in-Some-bytes.ensures.front c.with_bytes.ensures.looks)
 
 pub returns-in-None-bytes-clause-other : goal.returns-in-None-bytes-clause-other

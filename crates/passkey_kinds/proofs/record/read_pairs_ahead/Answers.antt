@@ -7,9 +7,9 @@ use Rattle.passkey_kinds.proofs.record.read_pairs_ahead.Goals as goal
 pub loop-alloc-preserved : goal.loop-alloc-preserved
 loop-alloc-preserved g c = record {
   onward = onward_then _ _ _ (onward_then _ _ _ c.loop-alloc.invariant.onward
-      (onward_of c.loop-alloc.cursor c.more.new.self c.loop-alloc-test.ensures.went)) c.in_ok-read_next.ensures.onward;
+      (onward_of c.loop-alloc.cursor c.more.new.self c.loop-alloc-test.ensures.moves)) c.in_ok-read_next.ensures.onward;
   counts = counts_then _ _ _ (counts_then _ _ _ c.loop-alloc.invariant.counts
-      (counts_more _ _ _ _ _ c.loop-alloc-test.ensures.walks.looks c.loop-alloc-test.ensures.went.heads))
+      (counts_more _ _ _ _ _ c.loop-alloc-test.ensures.walks.looks c.loop-alloc-test.ensures.moves.heads))
       c.in_ok-read_next.ensures.further.counts;
   each = λ ms to l.
       let t = g.R.Record.fields in
@@ -21,7 +21,7 @@ loop-alloc-preserved g c = record {
       one_more_done e b _ d c.loop-alloc-test.ensures.walks.looks n _ refl one.spends one.ends
       c.in_ok-read_next.ensures.onward.same
       (least_of (keeps_by t.rows (named (table_of t) n.first.0)) n.first.1) refl
-      (rises (onward_of c.loop-alloc.cursor b c.loop-alloc-test.ensures.went)) one.counts
+      (rises (onward_of c.loop-alloc.cursor b c.loop-alloc-test.ensures.moves)) one.counts
       (goes_on _ ms e.rest n.others n.first _ _ _ n.whole refl e.done _ _ one.answers);
 }
 
@@ -41,9 +41,9 @@ returns-clause-reads g c = λ ms to l.
     let walks = c.loop-alloc-test.ensures.walks in
     let e = c.loop-alloc.invariant.each ms to l in
     let ended = each_done e c.more.new.self walks.pairs walks.looks (omega (arith, at_least g.R.Record.fields.rows))
-    refl (rises (onward_of c.loop-alloc.cursor c.more.new.self c.loop-alloc-test.ensures.went)) in
+    refl (rises (onward_of c.loop-alloc.cursor c.more.new.self c.loop-alloc-test.ensures.moves)) in
     search (rules, all_read, on_ok, g.R.Record.fields, ended, c.finish.ensures)
 
 pub returns-clause-counts : goal.returns-clause-counts
 returns-clause-counts g c = on_ok c.finish.result (counts_then _ _ _ c.loop-alloc.invariant.counts
-    (counts_more _ _ _ _ _ c.loop-alloc-test.ensures.walks.looks c.loop-alloc-test.ensures.went.heads))
+    (counts_more _ _ _ _ _ c.loop-alloc-test.ensures.walks.looks c.loop-alloc-test.ensures.moves.heads))

@@ -25,7 +25,7 @@ returns-then-not-skip g c = λ ms to l.
     (c.loop-left.invariant ms to l) c.loop-left-test.ensures.walks.pairs c.loop-left-test.ensures.walks.looks
     c.in-Some.ensures.passes in
     let p = c.if-not-skip.ensures.passes n.value n.value_end (value_there n) in
-    let lie = p.is_found in
+    let found = p.is_found in
     absurd cc
 
 pub loop-left-smaller : goal.loop-left-smaller
@@ -33,12 +33,12 @@ loop-left-smaller g c =
     omega (
       arith,
       skipped_on _ _ c.if-not-skip.ensures.front,
-      c.more.ensures.went.forward,
-      c.pass.ensures.went.forward,
-      c.skip.ensures.went.within,
-      ap length c.more.ensures.went.same,
-      ap length c.pass.ensures.went.same,
-      ap length c.skip.ensures.went.same,
+      c.more.ensures.moves.forward,
+      c.pass.ensures.moves.forward,
+      c.skip.ensures.moves.within,
+      ap length c.more.ensures.moves.same,
+      ap length c.pass.ensures.moves.same,
+      ap length c.skip.ensures.moves.same,
     )
 
 pub loop-left-preserved : goal.loop-left-preserved

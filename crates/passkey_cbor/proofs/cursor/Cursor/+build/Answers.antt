@@ -9,15 +9,15 @@ use Rattle.passkey_cbor.specs.View.{item_of}
 use Rattle.passkey_cbor.specs.Building.{Makes, built, byte_string_at, text_string_at, an_item, a_counted_item, a_pair, each_of}
 use Rattle.passkey_cbor.specs.declared.head.Head.TheVariants as head
 use Rattle.passkey_cbor.specs.declared.value.Value.{Integer, Float, Tag, Array, Map}
-use Rattle.passkey_cbor.proofs.Views.{item_of-Integer, item_of-Float, item_of-Tag, item_of-Array, item_of-Map}
-use Rattle.passkey_cbor.proofs.Behind.{by_flat, by_string, by_array, by_map, by_tag, by_nothing, by_break}
-use Rattle.passkey_cbor.proofs.HeadCounts.{spans_flat}
-use Rattle.passkey_cbor.proofs.Skipping.{passed_none}
-use Rattle.passkey_cbor.proofs.Shrinking.{start_left, item_left, pair_left}
-use Rattle.passkey_cbor.proofs.Gathering.{went_none, went_stopped, on_ok, makes_nothing, makes_one, makes_after, makes_put, fails_put, full_put, makes_both, fails_first, fails_second, no_room, gathers_start, gathers_malformed, gathers_made, gathers_fails, gathers_full, gathers_pushed}
-use Rattle.passkey_cbor.proofs.Counted.{counted_once, simple_size, array_size, map_size, tag_size}
-use Rattle.passkey_cbor.proofs.Valuing.{grows_array, grows_map}
-use Rattle.passkey_cbor.proofs.Binds.{bind_at, bind_none}
+use Rattle.passkey_cbor.proofs.building.Views.{item_of-Integer, item_of-Float, item_of-Tag, item_of-Array, item_of-Map}
+use Rattle.passkey_cbor.proofs.skipping.After.{by_flat, by_string, by_array, by_map, by_tag, by_nothing, by_break}
+use Rattle.passkey_cbor.proofs.heads.HeadCounts.{spans_flat}
+use Rattle.passkey_cbor.proofs.skipping.Skipping.{passed_none}
+use Rattle.passkey_cbor.proofs.items.Shrinking.{start_left, item_left, pair_left}
+use Rattle.passkey_cbor.proofs.building.Gathering.{moves_none, moves_stopped, on_ok, makes_nothing, makes_one, makes_after, makes_put, fails_put, full_put, makes_both, fails_first, fails_second, no_room, gathers_start, gathers_malformed, gathers_made, gathers_fails, gathers_full, gathers_pushed}
+use Rattle.passkey_cbor.proofs.building.Counted.{counted_once, simple_size, array_size, map_size, tag_size}
+use Rattle.passkey_cbor.proofs.building.Valuing.{grows_array, grows_map}
+use Rattle.passkey_cbor.proofs.items.Binds.{bind_at, bind_none}
 use Rattle.passkey_cbor.specs.HeadReading.{Read, head_at}
 use Rattle.passkey_cbor.specs.declared.head.Head.{Head}
 use Rattle.passkey_cbor.proofs.cursor.Cursor.+build.Goals as goal
@@ -60,7 +60,7 @@ build_inside-returns-in-Float t c =
 
 pub build_inside-returns-in-Break : goal.build_inside-returns-in-Break
 build_inside-returns-in-Break t c =
-    makes_nothing a_counted_item _ c.args.self.now c.args.self.now _ (went_none c.args.self.now c.requires.inside)
+    makes_nothing a_counted_item _ c.args.self.now c.args.self.now _ (moves_none c.args.self.now c.requires.inside)
     (by_break c.args.levels c.args.head (ahead c.args.self.now) c.in-Break.is)
 
 pub build_inside-returns-in-Bytes : goal.build_inside-returns-in-Bytes
@@ -102,7 +102,7 @@ build_inside-returns-in-Tag t c =
 pub build_array-returns-then-levels-eq0 : goal.build_array-returns-then-levels-eq0
 unfolding item_by
 build_array-returns-then-levels-eq0 t c =
-    makes_nothing a_counted_item _ c.args.self.now c.args.self.now _ (went_none c.args.self.now c.requires.inside)
+    makes_nothing a_counted_item _ c.args.self.now c.args.self.now _ (moves_none c.args.self.now c.requires.inside)
     (by_nothing c.args.levels (head.Array c.args.len) (head.Array c.args.len) (ahead c.args.self.now)
     c.if-levels-eq0.true refl refl)
 
@@ -138,7 +138,7 @@ build_array-returns t c =
 pub build_map-returns-then-levels-eq0 : goal.build_map-returns-then-levels-eq0
 unfolding item_by
 build_map-returns-then-levels-eq0 t c =
-    makes_nothing a_counted_item _ c.args.self.now c.args.self.now _ (went_none c.args.self.now c.requires.inside)
+    makes_nothing a_counted_item _ c.args.self.now c.args.self.now _ (moves_none c.args.self.now c.requires.inside)
     (by_nothing c.args.levels (head.Map c.args.len) (head.Map c.args.len) (ahead c.args.self.now)
     c.if-levels-eq0.true refl refl)
 
@@ -173,7 +173,7 @@ build_map-returns t c =
 pub build_tagged-returns-then-levels-eq0 : goal.build_tagged-returns-then-levels-eq0
 unfolding item_by
 build_tagged-returns-then-levels-eq0 t c =
-    makes_nothing a_counted_item _ c.args.self.now c.args.self.now _ (went_none c.args.self.now c.requires.inside)
+    makes_nothing a_counted_item _ c.args.self.now c.args.self.now _ (moves_none c.args.self.now c.requires.inside)
     (by_nothing c.args.levels (head.Tag c.args.tag) (head.Tag c.args.tag) (ahead c.args.self.now)
     c.if-levels-eq0.true refl refl)
 
@@ -202,8 +202,8 @@ build_tagged-returns t c =
     (item_of-Tag c.args.tag c.in_ok-new.field-0 ∙ ap (λ v. tagged c.args.tag (item_of v))
     c.in_ok-new.ensures.ok) (tag_size c.args.tag) c.in_ok-build_item.ensures.made)
 
-pub build_behind-returns : goal.build_behind-returns
-build_behind-returns t c =
+pub build_after-returns : goal.build_after-returns
+build_after-returns t c =
     counted_once (content_len c.args.head) (item_within c.args.levels c.args.head (ahead c.args.self.now))
     c.args.self.now c.add.new.self c.build_inside.new.self (built c.build_inside.new.out c.build_inside.result)
     c.add.ensures.raised c.add.ensures.heads c.add.ensures.nodes
@@ -214,7 +214,7 @@ build_behind-returns t c =
 pub build_item-returns-in-None : goal.build_item-returns-in-None
 build_item-returns-in-None t c = record {
   made = makes_nothing an_item _ c.args.self.now c.decode.new.self _
-      (went_stopped c.args.self.now c.decode.new.self c.in-None.ensures.reads.stopped) (bind_none
+      (moves_stopped c.args.self.now c.decode.new.self c.in-None.ensures.reads.stopped) (bind_none
       (head_at (ahead c.args.self.now)) (λ h. item_within c.args.levels h.0 h.1) c.in-None.ensures.reads.reads);
   moved = tt;
 }
@@ -222,12 +222,12 @@ build_item-returns-in-None t c = record {
 pub build_item-returns-in-Some : goal.build_item-returns-in-Some
 build_item-returns-in-Some t c = record {
   made = makes_after an_item (item_within c.args.levels c.in-Some.head (ahead c.decode.new.self)) _ c.args.self.now
-      c.decode.new.self c.build_behind.new.self c.in-Some.head (built c.build_behind.new.out c.build_behind.result)
+      c.decode.new.self c.build_after.new.self c.in-Some.head (built c.build_after.new.out c.build_after.result)
       c.in-Some.ensures.reads
       (bind_at (head_at (ahead c.args.self.now)) (c.in-Some.head, ahead c.decode.new.self)
-      (λ h. item_within c.args.levels h.0 h.1) c.in-Some.ensures.reads.reads) c.build_behind.ensures;
-  moved = on_ok c.build_behind.result
-      (omega (arith, c.in-Some.ensures.reads.further, c.build_behind.ensures.went.forward));
+      (λ h. item_within c.args.levels h.0 h.1) c.in-Some.ensures.reads.reads) c.build_after.ensures;
+  moved = on_ok c.build_after.result
+      (omega (arith, c.in-Some.ensures.reads.further, c.build_after.ensures.moves.forward));
 }
 
 pub build_items-loop-head-init : goal.build_items-loop-head-init
@@ -244,30 +244,30 @@ build_items-returns-in-End t c =
     gathers_made an_item (item_within c.args.levels) c.args.len c.loop-head.left c.args.self.now c.loop-head.self
     c.step.new.self c.loop-head.items c.loop-head.invariant c.in-End.ensures.reads
 
-pub build_items-returns-in_err-build_behind-in-Element : goal.build_items-returns-in_err-build_behind-in-Element
-build_items-returns-in_err-build_behind-in-Element t c =
+pub build_items-returns-in_err-build_after-in-Element : goal.build_items-returns-in_err-build_after-in-Element
+build_items-returns-in_err-build_after-in-Element t c =
     let p = err_from_is_err_and c.from_residual.result
     c.from_residual.ensures.1 in
     rw (p.1, p.2) (gathers_fails an_item (item_within c.args.levels) c.args.len c.loop-head.left c.step.new.left
-    c.args.self.now c.loop-head.self c.step.new.self c.build_behind.new.self c.in-Element.head _
-    c.in_err-build_behind-in-Element.field-0.0 (item_left c.args.levels) c.loop-head.invariant
-    c.in-Element.ensures.reads c.in_err-build_behind-in-Element.ensures)
+    c.args.self.now c.loop-head.self c.step.new.self c.build_after.new.self c.in-Element.head _
+    c.in_err-build_after-in-Element.field-0.0 (item_left c.args.levels) c.loop-head.invariant
+    c.in-Element.ensures.reads c.in_err-build_after-in-Element.ensures)
 
 pub build_items-loop-head-preserved : goal.build_items-loop-head-preserved
 build_items-loop-head-preserved t c =
     gathers_pushed an_item (item_within c.args.levels) c.args.len c.loop-head.left c.step.new.left c.args.self.now
-    c.loop-head.self c.step.new.self c.build_behind.new.self c.in-Element.head c.loop-head.items.items _
-    c.build_behind.new.out c.loop-head.invariant c.in-Element.ensures.reads
-    c.in_ok-build_behind-in-Element.ensures c.in_ok-push-in-Element.ensures.items
+    c.loop-head.self c.step.new.self c.build_after.new.self c.in-Element.head c.loop-head.items.items _
+    c.build_after.new.out c.loop-head.invariant c.in-Element.ensures.reads
+    c.in_ok-build_after-in-Element.ensures c.in_ok-push-in-Element.ensures.items
 
 pub build_items-returns-in_err-push-in-Element : goal.build_items-returns-in_err-push-in-Element
 build_items-returns-in_err-push-in-Element t c =
     let p = err_from_is_err_and c.from_residual-in_err-push-in-Element.result
     c.from_residual-in_err-push-in-Element.ensures.1 in
     rw (p.1, p.2) (gathers_full an_item (item_within c.args.levels) c.args.len c.loop-head.left c.step.new.left
-    c.args.self.now c.loop-head.self c.step.new.self c.build_behind.new.self c.in-Element.head _
-    c.build_behind.new.out (item_left c.args.levels) c.loop-head.invariant
-    c.in-Element.ensures.reads c.in_ok-build_behind-in-Element.ensures)
+    c.args.self.now c.loop-head.self c.step.new.self c.build_after.new.self c.in-Element.head _
+    c.build_after.new.out (item_left c.args.levels) c.loop-head.invariant
+    c.in-Element.ensures.reads c.in_ok-build_after-in-Element.ensures)
 
 pub build_pairs-loop-head-init : goal.build_pairs-loop-head-init
 build_pairs-loop-head-init t c = gathers_start (pair_by (item_within c.args.levels)) a_pair.size c.args.len
@@ -308,25 +308,25 @@ build_pairs-returns-in_err-append_pair-in-Element t c =
     (c.build_pair.new.key, c.build_pair.new.value) (pair_left (item_within c.args.levels) (item_left c.args.levels))
     c.loop-head.invariant c.in-Element.ensures.reads c.in_ok-build_pair-in-Element.ensures)
 
-pub build_pair-returns-in_err-build_behind : goal.build_pair-returns-in_err-build_behind
-build_pair-returns-in_err-build_behind t c =
+pub build_pair-returns-in_err-build_after : goal.build_pair-returns-in_err-build_after
+build_pair-returns-in_err-build_after t c =
     let p = err_from_is_err_and c.from_residual.result c.from_residual.ensures.1 in
     rw (p.1, p.2) (fails_first an_item a_pair (item_within c.args.levels c.args.head (ahead c.args.self.now))
-    (start (item_within c.args.levels)) c.args.self.now c.build_behind.new.self c.in_err-build_behind.field-0.0 (λ m. tt)
-    (λ m. omega arith) (start_left (item_within c.args.levels) (item_left c.args.levels)) c.in_err-build_behind.ensures)
+    (start (item_within c.args.levels)) c.args.self.now c.build_after.new.self c.in_err-build_after.field-0.0 (λ m. tt)
+    (λ m. omega arith) (start_left (item_within c.args.levels) (item_left c.args.levels)) c.in_err-build_after.ensures)
 
 pub build_pair-returns-in_err-build_item : goal.build_pair-returns-in_err-build_item
 build_pair-returns-in_err-build_item t c =
     let p = err_from_is_err_and c.from_residual-in_err-build_item.result c.from_residual-in_err-build_item.ensures.1 in
     rw (p.1, p.2)
     (fails_second an_item an_item a_pair (item_within c.args.levels c.args.head (ahead c.args.self.now))
-    (start (item_within c.args.levels)) c.args.self.now c.build_behind.new.self c.build_item.new.self
-    c.build_behind.new.out c.in_err-build_item.field-0.0 (λ m. tt) (λ m. refl) c.in_ok-build_behind.ensures
+    (start (item_within c.args.levels)) c.args.self.now c.build_after.new.self c.build_item.new.self
+    c.build_after.new.out c.in_err-build_item.field-0.0 (λ m. tt) (λ m. refl) c.in_ok-build_after.ensures
     c.in_err-build_item.ensures.made)
 
 pub build_pair-returns : goal.build_pair-returns
 build_pair-returns t c =
     makes_both an_item an_item a_pair (item_within c.args.levels c.args.head (ahead c.args.self.now))
-    (start (item_within c.args.levels)) c.args.self.now c.build_behind.new.self c.build_item.new.self
-    c.build_behind.new.out c.build_item.new.out refl (λ m. refl) c.in_ok-build_behind.ensures
+    (start (item_within c.args.levels)) c.args.self.now c.build_after.new.self c.build_item.new.self
+    c.build_after.new.out c.build_item.new.out refl (λ m. refl) c.in_ok-build_after.ensures
     c.in_ok-build_item.ensures.made

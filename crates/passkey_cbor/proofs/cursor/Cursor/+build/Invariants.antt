@@ -3,7 +3,7 @@ use Rattle.passkey_cbor.specs.Item.{Item}
 use Rattle.passkey_cbor.specs.Reading.{item_within, pair_by}
 use Rattle.passkey_cbor.specs.View.{item_of, pair_of}
 use Rattle.passkey_cbor.specs.Building.{an_item, a_pair}
-use Rattle.passkey_cbor.proofs.Gathering.{Gathers}
+use Rattle.passkey_cbor.proofs.building.Gathering.{Gathers}
 use Rattle.passkey_cbor.proofs.cursor.Cursor.+build.Given as goal
 
 abbrev pub decreases-build_inside : goal.decreases-build_inside
@@ -18,8 +18,8 @@ decreases-build_map l = 8 * l.levels + 2
 abbrev pub decreases-build_tagged : goal.decreases-build_tagged
 decreases-build_tagged l = 8 * l.levels + 2
 
-abbrev pub decreases-build_behind : goal.decreases-build_behind
-decreases-build_behind l = 8 * l.levels + 4
+abbrev pub decreases-build_after : goal.decreases-build_after
+decreases-build_after l = 8 * l.levels + 4
 
 abbrev pub decreases-build_item : goal.decreases-build_item
 decreases-build_item l = 8 * l.levels + 5

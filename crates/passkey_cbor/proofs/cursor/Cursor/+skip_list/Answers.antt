@@ -3,7 +3,7 @@ use Rattle.std.proofs.lemmas.List.{length-set}
 use Rattle.passkey_cbor.specs.CursorState.{ahead}
 use Rattle.passkey_cbor.specs.Courses.{open_course}
 use Rattle.passkey_cbor.specs.declared.skip.Open.TheVariants as opens
-use Rattle.passkey_cbor.proofs.Advancing.{opened_first, opened_over, opened_failed, opened_end, opened_item, opened_inner, opened_too_deep, opened_called, opened_call_failed}
+use Rattle.passkey_cbor.proofs.skipping.Advancing.{opened_first, opened_over, opened_failed, opened_end, opened_item, opened_inner, opened_too_deep, opened_called, opened_call_failed}
 use Rattle.passkey_cbor.proofs.cursor.Cursor.+skip_list.Goals as goal
 
 pub loop-depth-init : goal.loop-depth-init

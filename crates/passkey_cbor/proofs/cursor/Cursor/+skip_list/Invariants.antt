@@ -1,7 +1,7 @@
 use Rattle.std.proofs.Common.{◌≡◌, ◌+◌, ◌*◌, ◌-◌, length}
 use Rattle.passkey_cbor.specs.CursorState.{ahead}
 use Rattle.passkey_cbor.specs.Courses.{open_course}
-use Rattle.passkey_cbor.proofs.Advancing.{Opened}
+use Rattle.passkey_cbor.proofs.skipping.Advancing.{Opened}
 use Rattle.passkey_cbor.proofs.cursor.Cursor.+skip_list.Given as goal
 
 abbrev pub decreases-skip_list : goal.decreases-skip_list

@@ -1,4 +1,4 @@
-use Rattle.passkey_cbor.proofs.Null.{null_else}
+use Rattle.passkey_cbor.proofs.items.Null.{null_else}
 use Rattle.passkey_cbor.proofs.cursor.Cursor.begins_null.Goals as goal
 
 pub returns-else-bytes-place-clause-is : goal.returns-else-bytes-place-clause-is

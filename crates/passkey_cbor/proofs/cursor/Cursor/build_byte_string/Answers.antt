@@ -5,9 +5,9 @@ use Rattle.passkey_cbor.specs.CursorState.{ahead}
 use Rattle.passkey_cbor.specs.Reading.{string_at}
 use Rattle.passkey_cbor.specs.Building.{some_bytes, a_counted_item}
 use Rattle.passkey_cbor.specs.declared.value.Value.{Bytes}
-use Rattle.passkey_cbor.proofs.Views.{item_of-Bytes}
-use Rattle.passkey_cbor.proofs.Gathering.{makes_put, fails_put}
-use Rattle.passkey_cbor.proofs.Valuing.{grows_bytes}
+use Rattle.passkey_cbor.proofs.building.Views.{item_of-Bytes}
+use Rattle.passkey_cbor.proofs.building.Gathering.{makes_put, fails_put}
+use Rattle.passkey_cbor.proofs.building.Valuing.{grows_bytes}
 use Rattle.passkey_cbor.proofs.cursor.Cursor.build_byte_string.Goals as goal
 
 pub returns-in_err-build_bytes : goal.returns-in_err-build_bytes

@@ -1,7 +1,7 @@
 use Rattle.std.proofs.Common.{◌≡◌, ℕ, Option, ap}
 use Rattle.std.specs.Prelude.{unwrap_or}
 use Rattle.passkey_cbor.specs.CursorState.{ahead}
-use Rattle.passkey_cbor.proofs.Behind.{string_piece}
+use Rattle.passkey_cbor.proofs.skipping.After.{string_piece}
 use Rattle.passkey_cbor.proofs.cursor.Cursor.build_bytes.Goals as goal
 
 pub returns-in-Some-clause-made : goal.returns-in-Some-clause-made

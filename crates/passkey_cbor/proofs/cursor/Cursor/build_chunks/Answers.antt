@@ -1,6 +1,6 @@
 use Rattle.std.proofs.Common.{◌<◌, length, refl, arith}
 use Rattle.std.proofs.lemmas.Result.{err_from_is_err_and}
-use Rattle.passkey_cbor.proofs.Chunks.{is_allowed-more, is_allowed-nil, collects_start, collects_on, collects_malformed, collects_no_chunk, collects_full, collects_end, counts_no_step, counts_no_chunk, counts_here, counts_end}
+use Rattle.passkey_cbor.proofs.strings.Chunks.{is_allowed-more, is_allowed-nil, collects_start, collects_on, collects_malformed, collects_no_chunk, collects_full, collects_end, counts_no_step, counts_no_chunk, counts_here, counts_end}
 use Rattle.passkey_cbor.proofs.cursor.Cursor.build_chunks.Goals as goal
 
 pub loop-bytes-init : goal.loop-bytes-init

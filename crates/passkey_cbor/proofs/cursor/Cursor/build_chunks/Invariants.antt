@@ -1,6 +1,6 @@
 use Rattle.std.proofs.Common.{◌≡◌, ◌-◌, true, length, None}
 use Rattle.passkey_cbor.specs.Reading.{is_allowed}
-use Rattle.passkey_cbor.proofs.Chunks.{Collects}
+use Rattle.passkey_cbor.proofs.strings.Chunks.{Collects}
 use Rattle.passkey_cbor.proofs.cursor.Cursor.build_chunks.Given as goal
 
 abbrev pub invariant-loop-bytes : goal.invariant-loop-bytes

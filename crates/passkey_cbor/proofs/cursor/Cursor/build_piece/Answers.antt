@@ -2,8 +2,8 @@ use Rattle.std.proofs.Common.{refl}
 use Rattle.passkey_cbor.specs.CursorState.{ahead}
 use Rattle.passkey_cbor.specs.Reading.{piece_at}
 use Rattle.passkey_cbor.specs.Building.{some_bytes}
-use Rattle.passkey_cbor.proofs.Gathering.{makes_one}
-use Rattle.passkey_cbor.proofs.HeadCounts.{spans_piece}
+use Rattle.passkey_cbor.proofs.building.Gathering.{makes_one}
+use Rattle.passkey_cbor.proofs.heads.HeadCounts.{spans_piece}
 use Rattle.passkey_cbor.proofs.cursor.Cursor.build_piece.Goals as goal
 
 pub returns-in_ok-copied-in-Some-clause-made : goal.returns-in_ok-copied-in-Some-clause-made

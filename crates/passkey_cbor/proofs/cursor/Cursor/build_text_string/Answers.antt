@@ -5,8 +5,8 @@ use Rattle.passkey_cbor.specs.CursorState.{ahead}
 use Rattle.passkey_cbor.specs.Reading.{string_at}
 use Rattle.passkey_cbor.specs.Building.{a_text, a_counted_item}
 use Rattle.passkey_cbor.specs.declared.value.Value.{Text}
-use Rattle.passkey_cbor.proofs.Views.{item_of-Text}
-use Rattle.passkey_cbor.proofs.Gathering.{makes_put, fails_put}
+use Rattle.passkey_cbor.proofs.building.Views.{item_of-Text}
+use Rattle.passkey_cbor.proofs.building.Gathering.{makes_put, fails_put}
 use Rattle.passkey_cbor.proofs.cursor.Cursor.build_text_string.Goals as goal
 
 pub returns-in_err-build_text : goal.returns-in_err-build_text

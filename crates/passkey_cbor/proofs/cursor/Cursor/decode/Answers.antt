@@ -1,5 +1,5 @@
 use Rattle.std.proofs.Common.{arith}
-use Rattle.passkey_cbor.proofs.Walks.{short_read}
+use Rattle.passkey_cbor.proofs.skipping.Walks.{short_read}
 use Rattle.passkey_cbor.proofs.cursor.Cursor.decode.Goals as goal
 
 pub pass_leaf-requires : goal.pass_leaf-requires

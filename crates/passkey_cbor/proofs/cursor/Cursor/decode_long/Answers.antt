@@ -1,6 +1,6 @@
 use Rattle.std.proofs.Common.{◌≡◌, ◌≤◌, arith}
 use Rattle.passkey_cbor.specs.CursorState.{raised}
-use Rattle.passkey_cbor.proofs.Walks.{head_taken, head_read}
+use Rattle.passkey_cbor.proofs.skipping.Walks.{head_taken, head_read}
 use Rattle.passkey_cbor.proofs.cursor.Cursor.decode_long.Goals as goal
 
 pub overflow_sub-self : goal.overflow_sub-self

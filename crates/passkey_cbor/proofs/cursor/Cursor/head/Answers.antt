@@ -1,6 +1,6 @@
-use Rattle.passkey_cbor.proofs.Walks.{finds_head}
-use Rattle.passkey_cbor.proofs.EncodedFrom.{opens}
-use Rattle.passkey_cbor.proofs.Gathering.{went_head}
+use Rattle.passkey_cbor.proofs.skipping.Walks.{finds_head}
+use Rattle.passkey_cbor.proofs.items.EncodedFrom.{opens}
+use Rattle.passkey_cbor.proofs.building.Gathering.{moves_head}
 use Rattle.passkey_cbor.specs.Found.{FindsHead}
 use Rattle.passkey_cbor.proofs.cursor.Cursor.head.Goals as goal
 
@@ -12,5 +12,5 @@ returns c =
     record {
       found = found;
       opens = λ x to l. opens c.args.self.now c.decode.new.self c.decode.result x to found l;
-      went = went_head c.args.self.now c.decode.new.self c.decode.result c.decode.ensures.reads;
+      moves = moves_head c.args.self.now c.decode.new.self c.decode.result c.decode.ensures.reads;
     }

@@ -1,7 +1,7 @@
 use Rattle.std.proofs.Common.{◌≡◌, ◌∙◌, ℕ, Some, None, ap, subst, sym, arith}
 use Rattle.passkey_cbor.specs.CursorState.{CursorState, IsPlaced}
-use Rattle.passkey_cbor.proofs.Gathering.{went_none, went_head, went_back}
-use Rattle.passkey_cbor.proofs.More.{none_left, some_left, break_there, element_there, no_head_there}
+use Rattle.passkey_cbor.proofs.building.Gathering.{moves_none, moves_head, moves_back}
+use Rattle.passkey_cbor.proofs.items.More.{none_left, some_left, break_there, element_there, no_head_there}
 use Rattle.passkey_cbor.proofs.cursor.Cursor.more.Goals as goal
 
 pub returns-then-n-eq0-clause-walks : goal.returns-then-n-eq0-clause-walks
@@ -34,31 +34,31 @@ returns-else-is_break-clause-walks c =
     placed.within c.in-None.is (sym c.if-is_break.ensures) c.in-Some-decode.ensures.reads
     (c.go_back.ensures ∙ ap (λ (p : ℕ). record c.decode.new.self { place = p }) place_is)
 
-pub returns-then-n-eq0-clause-went : goal.returns-then-n-eq0-clause-went
-returns-then-n-eq0-clause-went c =
+pub returns-then-n-eq0-clause-moves : goal.returns-then-n-eq0-clause-moves
+returns-then-n-eq0-clause-moves c =
     let placed : IsPlaced c.args.self.now.bytes c.args.self.now.place =
     subst (λ (w : CursorState). IsPlaced w.bytes w.place) c.self.view_is c.self.invariant in
-    went_none c.args.self.now placed.within
+    moves_none c.args.self.now placed.within
 
-pub returns-else-n-eq0-clause-went : goal.returns-else-n-eq0-clause-went
-returns-else-n-eq0-clause-went c =
+pub returns-else-n-eq0-clause-moves : goal.returns-else-n-eq0-clause-moves
+returns-else-n-eq0-clause-moves c =
     let placed : IsPlaced c.args.self.now.bytes c.args.self.now.place =
     subst (λ (w : CursorState). IsPlaced w.bytes w.place) c.self.view_is c.self.invariant in
-    went_none c.args.self.now placed.within
+    moves_none c.args.self.now placed.within
 
-pub returns-then-is_break-clause-went : goal.returns-then-is_break-clause-went
-returns-then-is_break-clause-went c =
-    went_head c.args.self.now c.decode.new.self (Some c.in-Some-decode.head) c.in-Some-decode.ensures.reads
+pub returns-then-is_break-clause-moves : goal.returns-then-is_break-clause-moves
+returns-then-is_break-clause-moves c =
+    moves_head c.args.self.now c.decode.new.self (Some c.in-Some-decode.head) c.in-Some-decode.ensures.reads
 
-pub returns-in-None-decode-clause-went : goal.returns-in-None-decode-clause-went
-returns-in-None-decode-clause-went c =
-    went_head c.args.self.now c.decode.new.self None c.in-None-decode.ensures.reads
+pub returns-in-None-decode-clause-moves : goal.returns-in-None-decode-clause-moves
+returns-in-None-decode-clause-moves c =
+    moves_head c.args.self.now c.decode.new.self None c.in-None-decode.ensures.reads
 
-pub returns-else-is_break-clause-went : goal.returns-else-is_break-clause-went
-returns-else-is_break-clause-went c =
+pub returns-else-is_break-clause-moves : goal.returns-else-is_break-clause-moves
+returns-else-is_break-clause-moves c =
     let placed : IsPlaced c.args.self.now.bytes c.args.self.now.place =
     subst (λ (w : CursorState). IsPlaced w.bytes w.place) c.self.view_is c.self.invariant in
     let place_is : c.self.inside.place ≡ c.args.self.now.place = ap (λ (w : CursorState). w.place) c.self.view_is in
-    went_back c.args.self.now c.decode.new.self c.go_back.new.self placed.within
-    (went_head c.args.self.now c.decode.new.self (Some c.in-Some-decode.head) c.in-Some-decode.ensures.reads)
+    moves_back c.args.self.now c.decode.new.self c.go_back.new.self placed.within
+    (moves_head c.args.self.now c.decode.new.self (Some c.in-Some-decode.head) c.in-Some-decode.ensures.reads)
     (c.go_back.ensures ∙ ap (λ (p : ℕ). record c.decode.new.self { place = p }) place_is)

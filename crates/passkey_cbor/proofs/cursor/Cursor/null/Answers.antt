@@ -1,5 +1,5 @@
 use Rattle.std.proofs.Common.{rules}
-use Rattle.passkey_cbor.proofs.Null.{skips_null, null_passed, not_null}
+use Rattle.passkey_cbor.proofs.items.Null.{skips_null, null_passed, not_null}
 use Rattle.passkey_cbor.proofs.cursor.Cursor.null.Goals as goal
 
 pub returns-then-begins_null-clause-passes : goal.returns-then-begins_null-clause-passes

@@ -2,9 +2,9 @@ use Rattle.std.proofs.Common.{None, Some, refl, arith}
 use Rattle.passkey_cbor.specs.HeadsDecoded.{chunk_heads}
 use Rattle.passkey_cbor.specs.Reading.{chunk, end}
 use Rattle.passkey_cbor.specs.CursorState.{ahead, break_heads}
-use Rattle.passkey_cbor.proofs.Chunks.{measures_start, measures_on, measured, chunk_passed, chunks_passed, chunks_missed}
-use Rattle.passkey_cbor.proofs.HeadsDecoded.{tallies_start, tallies_on, tallies_end, tallies_stuck, shorter}
-use Rattle.passkey_cbor.proofs.Skipping.{goes_end, goes_malformed, goes_stuck}
+use Rattle.passkey_cbor.proofs.strings.Chunks.{measures_start, measures_on, measured, chunk_passed, chunks_passed, chunks_missed}
+use Rattle.passkey_cbor.proofs.heads.HeadsDecoded.{tallies_start, tallies_on, tallies_end, tallies_stuck, shorter}
+use Rattle.passkey_cbor.proofs.skipping.Skipping.{goes_end, goes_malformed, goes_stuck}
 use Rattle.passkey_cbor.proofs.cursor.Cursor.pass_chunks.Goals as goal
 
 pub loop-head-init : goal.loop-head-init

@@ -1,8 +1,8 @@
 use Rattle.std.proofs.Common.{◌≡◌, ◌-◌, length, None}
 use Rattle.passkey_cbor.specs.HeadsDecoded.{chunk_heads}
 use Rattle.passkey_cbor.specs.Reading.{chunk}
-use Rattle.passkey_cbor.proofs.Chunks.{Measures}
-use Rattle.passkey_cbor.proofs.HeadsDecoded.{Tallies}
+use Rattle.passkey_cbor.proofs.strings.Chunks.{Measures}
+use Rattle.passkey_cbor.proofs.heads.HeadsDecoded.{Tallies}
 use Rattle.passkey_cbor.proofs.cursor.Cursor.pass_chunks.Given as goal
 
 abbrev pub invariant-loop-head : goal.invariant-loop-head

@@ -1,10 +1,10 @@
 use Rattle.std.proofs.Common.{◌∙◌, List, ℕ, Option, length, ap, sym}
 use Rattle.std.specs.Prelude.{unwrap_or}
 use Rattle.passkey_cbor.specs.CursorState.{ahead}
-use Rattle.passkey_cbor.proofs.Behind.{string_piece}
-use Rattle.passkey_cbor.proofs.Binds.{some_is}
-use Rattle.passkey_cbor.proofs.HeadCounts.{spans_as, spans_piece}
-use Rattle.passkey_cbor.proofs.HeadsDecoded.{piece_heads}
+use Rattle.passkey_cbor.proofs.skipping.After.{string_piece}
+use Rattle.passkey_cbor.proofs.items.Binds.{some_is}
+use Rattle.passkey_cbor.proofs.heads.HeadCounts.{spans_as, spans_piece}
+use Rattle.passkey_cbor.proofs.heads.HeadsDecoded.{piece_heads}
 use Rattle.passkey_cbor.proofs.cursor.Cursor.pass_string.Goals as goal
 
 pub returns-in-None-piece-clause-skips : goal.returns-in-None-piece-clause-skips

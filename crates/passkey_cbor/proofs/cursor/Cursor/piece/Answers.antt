@@ -1,4 +1,4 @@
-use Rattle.passkey_cbor.proofs.Walks.{piece_taken, piece_read}
+use Rattle.passkey_cbor.proofs.skipping.Walks.{piece_taken, piece_read}
 use Rattle.passkey_cbor.proofs.cursor.Cursor.piece.Goals as goal
 
 pub overflow_sub-self : goal.overflow_sub-self

@@ -1,8 +1,8 @@
 use Rattle.std.proofs.Common.{◌≡◌, ◌-◌, ap, subst, refl, take, drop}
 use Rattle.passkey_cbor.specs.CursorState.{CursorState, IsPlaced}
 use Rattle.passkey_cbor.specs.Steps.{RegionRead}
-use Rattle.passkey_cbor.proofs.Numbers.{IsBytes-drop}
-use Rattle.passkey_cbor.proofs.Lending.{region_read, region_sized}
+use Rattle.passkey_cbor.proofs.heads.Numbers.{IsBytes-drop}
+use Rattle.passkey_cbor.proofs.strings.Lending.{region_read, region_sized}
 use Rattle.passkey_cbor.proofs.cursor.Cursor.region.Goals as goal
 
 pub returns-clause-reads : goal.returns-clause-reads

@@ -1,4 +1,4 @@
-use Rattle.passkey_cbor.proofs.ShortHeads.{short_at}
+use Rattle.passkey_cbor.proofs.heads.ShortHeads.{short_at}
 use Rattle.passkey_cbor.proofs.cursor.Cursor.short_head.Goals as goal
 
 pub returns-then-place-bytes-clause-reads : goal.returns-then-place-bytes-clause-reads

@@ -1,8 +1,10 @@
-use Rattle.std.proofs.Common.{◌≡◌, ◌∙◌, ◌+◌, ◌-◌, List, ℕ, Some, take, drop, length, sym, ap, subst, refl, arith}
+use Rattle.std.proofs.Common.{◌≡◌, ◌∙◌, ◌+◌, ◌-◌, List, ℕ, Some, take, drop, length, ap, subst, refl, arith}
 use Rattle.std.proofs.lemmas.List.{take_rest}
 use Rattle.passkey_cbor.specs.Leaf.{Headed}
+use Rattle.passkey_cbor.specs.Lent.{string_head}
+use Rattle.passkey_cbor.specs.declared.head.Head.{Head}
 use Rattle.passkey_cbor.specs.CursorState.{CursorState, ahead, IsPlaced}
-use Rattle.passkey_cbor.proofs.Lending.{short_read}
+use Rattle.passkey_cbor.proofs.strings.Lending.{short_read}
 use Rattle.passkey_cbor.proofs.cursor.Cursor.short_string.Goals as goal
 
 pub returns-clause-passes : goal.returns-clause-passes
@@ -18,10 +20,10 @@ returns-clause-passes c =
     let rest : take (length s.bytes.now - (s.place + h.head_len)) (drop (s.place + h.head_len) s.bytes.now)
     ≡ drop (c.args.self.now.place + h.head_len) c.args.self.now.bytes =
     take_rest s.bytes.now (s.place + h.head_len) ∙ rw (at, bytes) refl in
-    let headed : Headed (ahead c.args.self.now) h.head_len h.head (drop h.head_len (ahead c.args.self.now)) =
-    subst (λ (t : List ℕ). Headed t h.head_len h.head (drop h.head_len t)) whole h.ensures.headed in
-    short_read c.args.is_text h.head_len c.in-Some-Some.len h.head c.args.self.now c.pass_leaf.new.self _ placed
-    h.ensures.len.0 headed (sym c.in-Some-Some.ensures ∙ ap Some c.in-Some-Some.field-0-is)
-    (omega (arith, ap length rest, c.if-rest-len.false))
-    (ap (take c.in-Some-Some.len) rest) (c.is_plain.ensures.allowed c.if-not-is_plain.false) c.pass_leaf.ensures.passed
+    let head : Head = string_head c.args.is_text (Some h.len) in
+    let headed : Headed (ahead c.args.self.now) h.head_len head (drop h.head_len (ahead c.args.self.now)) =
+    subst (λ (t : List ℕ). Headed t h.head_len head (drop h.head_len t)) whole h.ensures.headed in
+    short_read c.args.is_text h.head_len h.len c.args.self.now c.pass_leaf.new.self _ placed
+    h.ensures.len.0 headed (omega (arith, ap length rest, c.if-rest-len.false))
+    (ap (take h.len) rest) (c.is_plain.ensures.allowed c.if-not-is_plain.false) c.pass_leaf.ensures.passed
     c.pass_leaf.ensures.rises

@@ -1,4 +1,4 @@
-use Rattle.passkey_cbor.proofs.Advancing.{break_failed}
+use Rattle.passkey_cbor.proofs.skipping.Advancing.{break_failed}
 use Rattle.passkey_cbor.proofs.cursor.Cursor.skip_inner_part.Goals as goal
 
 pub returns-in-End : goal.returns-in-End

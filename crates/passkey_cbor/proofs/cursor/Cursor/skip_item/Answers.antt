@@ -2,7 +2,7 @@ use Rattle.std.proofs.Common.{subst, arith}
 use Rattle.std.proofs.lemmas.List.{take_rest}
 use Rattle.passkey_cbor.specs.LeadingItem.{max_depth}
 use Rattle.passkey_cbor.specs.Leaf.{IsLeafLen}
-use Rattle.passkey_cbor.proofs.Advancing.{leaf_advances}
+use Rattle.passkey_cbor.proofs.skipping.Advancing.{leaf_advances}
 use Rattle.passkey_cbor.proofs.cursor.Cursor.skip_item.Goals as goal
 
 pub returns-then-len-gt0 : goal.returns-then-len-gt0

@@ -2,7 +2,7 @@ use Rattle.std.proofs.Common.{◌≡◌, suc, ◌-◌, ap, subst, arith}
 use Rattle.std.proofs.lemmas.List.{take_rest}
 use Rattle.passkey_cbor.specs.CursorState.{CursorState}
 use Rattle.passkey_cbor.specs.Leaf.{IsLeafLen}
-use Rattle.passkey_cbor.proofs.Advancing.{leaves_none, leaves_one, leaves_passed, leaves_missed}
+use Rattle.passkey_cbor.proofs.skipping.Advancing.{leaves_none, leaves_one, leaves_passed, leaves_missed}
 use Rattle.passkey_cbor.proofs.cursor.Cursor.skip_leaves.Goals as goal
 
 pub loop-left-init : goal.loop-left-init

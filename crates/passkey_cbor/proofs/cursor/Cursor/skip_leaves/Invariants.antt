@@ -1,4 +1,4 @@
-use Rattle.passkey_cbor.proofs.Advancing.{Leaves}
+use Rattle.passkey_cbor.proofs.skipping.Advancing.{Leaves}
 use Rattle.passkey_cbor.proofs.cursor.Cursor.skip_leaves.Given as goal
 
 abbrev pub invariant-loop-left : goal.invariant-loop-left

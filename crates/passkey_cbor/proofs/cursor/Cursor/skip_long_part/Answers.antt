@@ -4,7 +4,7 @@ use Rattle.passkey_cbor.specs.Item.{number, float}
 use Rattle.passkey_cbor.specs.Reading.{item_by, simple_item}
 use Rattle.passkey_cbor.specs.HeadsDecoded.{item_heads_by}
 use Rattle.passkey_cbor.specs.declared.head.Head.TheVariants as head
-use Rattle.passkey_cbor.proofs.Advancing.{no_head, string_passed, string_failed, array_begun, map_begun, tag_begun, alone}
+use Rattle.passkey_cbor.proofs.skipping.Advancing.{no_head, string_passed, string_failed, array_begun, map_begun, tag_begun, alone}
 use Rattle.passkey_cbor.proofs.cursor.Cursor.skip_long_part.Goals as goal
 
 pub returns-in-None : goal.returns-in-None

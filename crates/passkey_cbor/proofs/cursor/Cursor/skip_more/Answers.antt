@@ -1,5 +1,5 @@
 use Rattle.std.proofs.Common.{◌≡◌, suc, ◌-◌, arith}
-use Rattle.passkey_cbor.proofs.Advancing.{leaves_end, leaves_part, items_part, pairs_part, value_part}
+use Rattle.passkey_cbor.proofs.skipping.Advancing.{leaves_end, leaves_part, items_part, pairs_part, value_part}
 use Rattle.passkey_cbor.proofs.cursor.Cursor.skip_more.Goals as goal
 
 pub returns-then-left-eq0 : goal.returns-then-left-eq0

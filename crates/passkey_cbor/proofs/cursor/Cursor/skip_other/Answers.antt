@@ -1,5 +1,5 @@
 use Rattle.passkey_cbor.specs.LeadingItem.{max_depth}
-use Rattle.passkey_cbor.proofs.Advancing.{break_failed, list_taken}
+use Rattle.passkey_cbor.proofs.skipping.Advancing.{break_failed, list_taken}
 use Rattle.passkey_cbor.proofs.cursor.Cursor.skip_other.Goals as goal
 
 pub returns-in-End : goal.returns-in-End

@@ -1,5 +1,5 @@
-use Rattle.passkey_cbor.proofs.Walks.{short_read}
-use Rattle.passkey_cbor.proofs.Advancing.{array_begun, map_begun, tag_begun}
+use Rattle.passkey_cbor.proofs.skipping.Walks.{short_read}
+use Rattle.passkey_cbor.proofs.skipping.Advancing.{array_begun, map_begun, tag_begun}
 use Rattle.passkey_cbor.proofs.cursor.Cursor.skip_part.Goals as goal
 
 pub returns-in-Some-Array : goal.returns-in-Some-Array

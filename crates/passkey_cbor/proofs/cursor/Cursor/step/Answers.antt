@@ -1,5 +1,5 @@
 use Rattle.std.proofs.Common.{sym, arith}
-use Rattle.passkey_cbor.proofs.Walks.{step_end, element_known, no_element_known, element_unknown, break_unknown, no_element_unknown}
+use Rattle.passkey_cbor.proofs.skipping.Walks.{step_end, element_known, no_element_known, element_unknown, break_unknown, no_element_unknown}
 use Rattle.passkey_cbor.proofs.cursor.Cursor.step.Goals as goal
 
 pub returns-then-n-eq0-clause-reads : goal.returns-then-n-eq0-clause-reads

@@ -1,7 +1,7 @@
 use Rattle.std.proofs.Common.{sym, rules}
-use Rattle.passkey_cbor.proofs.Numbers.{IsBytes-drop}
-use Rattle.passkey_cbor.proofs.Walks.{head_passed}
-use Rattle.passkey_cbor.proofs.Lending.{string_read, string_cut, no_head_read, other_head_read}
+use Rattle.passkey_cbor.proofs.heads.Numbers.{IsBytes-drop}
+use Rattle.passkey_cbor.proofs.skipping.Walks.{head_passed}
+use Rattle.passkey_cbor.proofs.strings.Lending.{string_read, string_cut, no_head_read, other_head_read}
 use Rattle.passkey_cbor.proofs.cursor.Cursor.string_ahead.Goals as goal
 
 pub returns-in-Some-region-clause-reads : goal.returns-in-Some-region-clause-reads

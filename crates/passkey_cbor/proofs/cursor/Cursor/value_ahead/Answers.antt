@@ -1,9 +1,9 @@
 use Rattle.std.proofs.Common.{◌≡◌, ◌∙◌, ap, subst, ℕ}
 use Rattle.passkey_cbor.specs.CursorState.{CursorState, IsPlaced}
-use Rattle.passkey_cbor.proofs.Gathering.{went_back}
-use Rattle.passkey_cbor.proofs.HeadCounts.{spans_count}
-use Rattle.passkey_cbor.proofs.Numbers.{IsBytes-drop}
-use Rattle.passkey_cbor.proofs.Valuing.{made_ahead, fails_ahead}
+use Rattle.passkey_cbor.proofs.building.Gathering.{moves_back}
+use Rattle.passkey_cbor.proofs.heads.HeadCounts.{spans_count}
+use Rattle.passkey_cbor.proofs.heads.Numbers.{IsBytes-drop}
+use Rattle.passkey_cbor.proofs.building.Valuing.{made_ahead, fails_ahead}
 use Rattle.passkey_cbor.proofs.cursor.Cursor.value_ahead.Goals as goal
 
 pub returns-in-Ok : goal.returns-in-Ok
@@ -17,7 +17,7 @@ returns-in-Ok c =
       counts = spans_count c.args.self.now c.build_item.new.self
           (IsBytes-drop c.args.self.now.place c.args.self.now.bytes placed.fits) c.in-Ok.ensures.made.spans;
       stays = tt;
-      went = c.in-Ok.ensures.made.went;
+      moves = c.in-Ok.ensures.made.moves;
     }
 
 pub returns-in-Err : goal.returns-in-Err
@@ -33,6 +33,6 @@ returns-in-Err c =
       moved = tt;
       counts = tt;
       stays = ap (λ (w : CursorState). w.place) back;
-      went = went_back c.args.self.now c.build_item.new.self c.go_back.new.self placed.within
-          c.in-Err.ensures.made.went back;
+      moves = moves_back c.args.self.now c.build_item.new.self c.go_back.new.self placed.within
+          c.in-Err.ensures.made.moves back;
     }

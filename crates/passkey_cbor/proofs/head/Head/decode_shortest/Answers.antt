@@ -1,6 +1,6 @@
 use Rattle.std.proofs.Common.{sym, ◌∙◌, arith}
-use Rattle.passkey_cbor.proofs.Binds.{none_is_some}
-use Rattle.passkey_cbor.proofs.Shortest.{head_left, begins_once, not_shortest}
+use Rattle.passkey_cbor.proofs.items.Binds.{none_is_some}
+use Rattle.passkey_cbor.proofs.heads.Shortest.{head_left, begins_once, not_shortest}
 use Rattle.passkey_cbor.proofs.head.Head.decode_shortest.Goals as goal
 
 pub overflow_sub-bytes : goal.overflow_sub-bytes

@@ -1,6 +1,6 @@
 use Rattle.std.proofs.Common.{◌∙◌, ◌/◌, ap, arith}
 use Rattle.passkey_cbor.specs.HeadReading.{with_argument}
-use Rattle.passkey_cbor.proofs.ShortHeads.{short_simple, short_other}
+use Rattle.passkey_cbor.proofs.heads.ShortHeads.{short_simple, short_other}
 use Rattle.passkey_cbor.proofs.head.Head.short.Goals as goal
 
 pub returns-then-initial-eq7 : goal.returns-then-initial-eq7

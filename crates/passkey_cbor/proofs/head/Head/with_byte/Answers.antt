@@ -1,6 +1,6 @@
 use Rattle.std.proofs.Common.{◌∙◌, ◌/◌, ap}
 use Rattle.passkey_cbor.specs.HeadReading.{with_argument}
-use Rattle.passkey_cbor.proofs.ShortHeads.{with_byte_is}
+use Rattle.passkey_cbor.proofs.heads.ShortHeads.{with_byte_is}
 use Rattle.passkey_cbor.proofs.head.Head.with_byte.Goals as goal
 
 pub returns : goal.returns

@@ -1,5 +1,5 @@
 use Rattle.std.proofs.Common.{rules}
-use Rattle.passkey_cbor.proofs.MapMembers.{ends, key_there, value_there, gives, some_left_after, nearer}
+use Rattle.passkey_cbor.proofs.items.MapMembers.{ends, key_there, value_there, gives, some_left_after, nearer}
 use Rattle.passkey_cbor.proofs.member.MembersIterator.next.Goals as goal
 
 pub returns-then-not-more-clause-steps : goal.returns-then-not-more-clause-steps

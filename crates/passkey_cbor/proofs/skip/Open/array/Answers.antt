@@ -1,6 +1,6 @@
 use Rattle.std.proofs.Common.{Option, ℕ, ap, sym, ◌∙◌}
 use Rattle.passkey_cbor.specs.Courses.{items_course}
-use Rattle.passkey_cbor.proofs.Courses.{open_items, open_to_break}
+use Rattle.passkey_cbor.proofs.skipping.Courses.{open_items, open_to_break}
 use Rattle.passkey_cbor.proofs.skip.Open.array.Goals as goal
 
 pub returns-in-Some : goal.returns-in-Some

@@ -1,7 +1,7 @@
 use Rattle.std.proofs.Common.{◌≡◌, ◌⊎◌, ◌*◌, ◌<◌, Option, ℕ, length, ap, sym, ◌∙◌, arith, inl, inr}
 use Rattle.std.proofs.lemmas.Bool.{cases_lt}
 use Rattle.passkey_cbor.specs.Courses.{pairs_course}
-use Rattle.passkey_cbor.proofs.Courses.{open_map, open_pairs}
+use Rattle.passkey_cbor.proofs.skipping.Courses.{open_map, open_pairs}
 use Rattle.passkey_cbor.proofs.skip.Open.map.Goals as goal
 
 pub returns-in-Some : goal.returns-in-Some

@@ -2,8 +2,8 @@ use Rattle.std.proofs.Common.{◌≡◌, ◌+◌, ◌*◌, length, true, string_
 use Rattle.passkey_cbor_text.specs.diagnose.BytesText.{item_text, member_text, parts_text}
 use Rattle.passkey_cbor_text.proofs.diagnose.bytes_text.+bytes.Given as goal
 
-abbrev pub decreases-push_behind : goal.decreases-push_behind
-decreases-push_behind l = 8 * l.levels + 1
+abbrev pub decreases-push_after : goal.decreases-push_after
+decreases-push_after l = 8 * l.levels + 1
 
 abbrev pub decreases-push_item : goal.decreases-push_item
 decreases-push_item l = 8 * l.levels + 2

@@ -31,4 +31,4 @@ returns c =
     sym c.loop-alloc.invariant
     ∙ parts_end (chunk_text c.args.is_text) [] c.loop-alloc.others None c.loop-alloc.is_first c.loop-alloc.here.now
     (string_bytes c.loop-alloc.out) (sym c.loop-alloc-test.ensures)
-    ∙ ap (λ (r : List ℕ). Some (string_bytes c.loop-alloc.out, r)) (sym c.behind_last.ensures)
+    ∙ ap (λ (r : List ℕ). Some (string_bytes c.loop-alloc.out, r)) (sym c.after_last.ensures)

@@ -2,7 +2,7 @@ use Rattle.std.proofs.Common.{arith, ◌∙◌, ◌++◌, ◌∷◌, [], List, �
 use Rattle.std.proofs.lemmas.Result.{on_ok_weaker}
 use Rattle.std.proofs.lemmas.Str.{encode_ascii}
 use Rattle.passkey_cbor.specs.View.{items_view, pairs_view}
-use Rattle.passkey_cbor.proofs.Views.{item_of-Map}
+use Rattle.passkey_cbor.proofs.building.Views.{item_of-Map}
 use Rattle.passkey_cbor_text.specs.diagnose.Diagnosis.{closing, deeper, items_text, pairs_text}
 use Rattle.passkey_cbor_text.proofs.Texts.{closed, items_done, pairs_done, no_items_in, no_pairs_in}
 use Rattle.passkey_cbor_text.proofs.diagnose.diagnosis.+diagnosis.Goals as goal

@@ -1,6 +1,6 @@
 use Rattle.std.proofs.Common.{rules, map}
 use Rattle.passkey_cbor.specs.View.{pair_of}
-use Rattle.passkey_cbor.proofs.Views.{item_of-Map}
+use Rattle.passkey_cbor.proofs.building.Views.{item_of-Map}
 use Rattle.passkey_cose.proofs.KeyLists.{read_key-map}
 use Rattle.passkey_cose.proofs.key.CoseKey.from_value.Goals as goal
 

@@ -3,7 +3,7 @@ use Rattle.passkey_cbor.specs.Item.{byte_string}
 use Rattle.passkey_core.specs.DataViews.{attested_parts}
 use Rattle.passkey_explain.specs.Described.{leaf}
 use Rattle.passkey_kinds.specs.declared.wanted.Wanted.TheVariants as wanted
-use Rattle.passkey_cbor.proofs.Gathering.{ok_then}
+use Rattle.passkey_cbor.proofs.building.Gathering.{ok_then}
 use Rattle.passkey_explain.proofs.DescribingData.{pushed_as, three_pushed}
 use Rattle.passkey_explain.specs.DescribedData.{described_key, field_of}
 use Rattle.passkey_explain.proofs.data_items.data.push_attested.Goals as goal

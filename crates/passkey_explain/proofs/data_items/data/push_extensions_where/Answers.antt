@@ -1,7 +1,7 @@
 use Rattle.std.proofs.Common.{◌∙◌, ◌++◌, Option, codes, map, option_map, sym, ap}
 use Rattle.passkey_cbor.specs.View.{item_of}
 use Rattle.passkey_cbor.specs.declared.value.Value.{Value}
-use Rattle.passkey_cbor.proofs.Gathering.{ok_then}
+use Rattle.passkey_cbor.proofs.building.Gathering.{ok_then}
 use Rattle.passkey_explain.proofs.DescribingData.{pushed_as}
 use Rattle.passkey_explain.specs.DescribedData.{extensions_part, field_of, if_present}
 use Rattle.passkey_explain.proofs.data_items.data.push_extensions_where.Goals as goal

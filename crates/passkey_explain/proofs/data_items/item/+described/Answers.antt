@@ -1,5 +1,5 @@
 use Rattle.std.proofs.Common.{◌∙◌, List, map, sym, ap}
-use Rattle.passkey_cbor.proofs.Views.{item_of-Array, item_of-Map}
+use Rattle.passkey_cbor.proofs.building.Views.{item_of-Array, item_of-Map}
 use Rattle.passkey_cbor.specs.Item.{array, items_of, pairs_of}
 use Rattle.passkey_cbor.specs.Item as item
 use Rattle.passkey_cbor.specs.View.{item_of, pair_of}

@@ -1,9 +1,9 @@
 use Rattle.std.proofs.Common.{◌≡◌, ◌∙◌, List, Option, map, sym, ap}
-use Rattle.passkey_cbor.proofs.Views.{item_of-Map}
+use Rattle.passkey_cbor.proofs.building.Views.{item_of-Map}
 use Rattle.passkey_cbor.specs.Item.{Item}
 use Rattle.passkey_cbor.specs.View.{item_of, pair_of}
 use Rattle.passkey_cbor.specs.declared.value.Value.{Value}
-use Rattle.passkey_cbor.proofs.Items.{members-pairs_of}
+use Rattle.passkey_cbor.proofs.items.Items.{members-pairs_of}
 use Rattle.passkey_cose.specs.KeyLabels.{Members}
 use Rattle.passkey_explain.proofs.Describing.{described_of-Record}
 use Rattle.passkey_explain.specs.Described.{Described, Part, parts, parts_from, record_of_members}

@@ -18,7 +18,7 @@ returns-in-None-clause-reads c = λ i to l.
 
 pub returns-in-None-clause-further : goal.returns-in-None-clause-further
 returns-in-None-clause-further c =
-    let on = c.in-None.ensures.went in
+    let on = c.in-None.ensures.moves in
     let named = answers_from (λ x. x) _ (ap (option_and_then algorithm_named) (sym c.integer.ensures)) (λ h. absurd h)
     c.named-in-None.ensures in
     scalar_ends _ numbered _ c.named-in-None.result refl named (λ is. further_from _ _ _ (onward_of _ _ on)

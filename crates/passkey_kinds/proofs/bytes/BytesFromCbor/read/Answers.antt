@@ -29,7 +29,7 @@ returns-in-Some-text-clause-reads c = λ i to l.
 pub returns-in-Some-text-clause-further : goal.returns-in-Some-text-clause-further
 returns-in-Some-text-clause-further c =
     let missed = c.in_default.ensures in
-    on_ok c.read_base64.result (further_from _ _ _ (onward_of _ _ missed.went) missed.front.place
+    on_ok c.read_base64.result (further_from _ _ _ (onward_of _ _ missed.moves) missed.front.place
     (looked_further _ _ _ _ true c.in-Some-text.ensures.front c.read_base64.ensures.looks))
 
 pub returns-in-Some-clause-further : goal.returns-in-Some-clause-further
@@ -41,8 +41,8 @@ pub returns-clause-further : goal.returns-clause-further
 returns-clause-further c =
     let read = c.in_default.ensures in
     let text = c.in_default-text.ensures in
-    further_ok _ c.read_whole.result (onward_of _ _ read.went) read.front.place
-    (further_ok _ c.read_whole.result (onward_of _ _ text.went) text.front.place c.read_whole.ensures.further)
+    further_ok _ c.read_whole.result (onward_of _ _ read.moves) read.front.place
+    (further_ok _ c.read_whole.result (onward_of _ _ text.moves) text.front.place c.read_whole.ensures.further)
 
 pub returns-clause-reads : goal.returns-clause-reads
 returns-clause-reads c = λ i to l.

@@ -48,7 +48,7 @@ returns-in-Some-lent-clause-counts c = λ i to l ok.
     let f = c.in-Some.ensures.lends i to l in
     let t = c.in-Some-lent.bytes.now in
     let is = f.1.0 ∙ ap byte_string (sym (lent_is false _ t f.0 c.in-Some-lent.ensures f.1.1.tells)) in
-    data_kept i t is (rises (onward_of _ _ c.in-Some.ensures.went)) c.read_counted.ensures.counts
+    data_kept i t is (rises (onward_of _ _ c.in-Some.ensures.moves)) c.read_counted.ensures.counts
     (unless_ok c.read_counted.result c.read_counted.ensures.all ok)
 
 pub returns-in_ok-bytes-in-None-lent-clause-counts : goal.returns-in_ok-bytes-in-None-lent-clause-counts
@@ -56,7 +56,7 @@ returns-in_ok-bytes-in-None-lent-clause-counts c = λ i to l ok.
     let f = c.in-Some.ensures.lends i to l in
     let copied = c.in_ok-bytes-in-None-lent.ensures in
     let is = f.1.0 ∙ ap byte_string (sym (c.deref.ensures.value ∙ copied.copies f.0 f.1.1.tells)) in
-    let risen = least_later _ (rises (onward_of _ _ c.in-Some.ensures.went))
+    let risen = least_later _ (rises (onward_of _ _ c.in-Some.ensures.moves))
     (record { heads = copied.rises; nodes = omega (arith, copied.looks.nodes) }) in
     data_kept i _ is risen c.read_counted-in-None-lent.ensures.counts
     (unless_ok c.read_counted-in-None-lent.result c.read_counted-in-None-lent.ensures.all ok)

@@ -28,15 +28,15 @@ returns-clause-reads g c = λ i to l.
 pub returns-clause-further : goal.returns-clause-further
 returns-clause-further g c =
     let looked = c.if-null.ensures.passes in
-    further_from _ _ _ (onward_of _ _ c.if-null.ensures.went) looked.1.place c.in_ok-read.ensures.further
+    further_from _ _ _ (onward_of _ _ c.if-null.ensures.moves) looked.1.place c.in_ok-read.ensures.further
 
 pub returns-then-null-clause-counts : goal.returns-then-null-clause-counts
 returns-then-null-clause-counts g c = λ i to l ok.
-    kept_null g.T.FromCbor.typed.keeps i _ _ (c.if-null.ensures.at i to l).0 (onward_of _ _ c.if-null.ensures.went)
+    kept_null g.T.FromCbor.typed.keeps i _ _ (c.if-null.ensures.at i to l).0 (onward_of _ _ c.if-null.ensures.moves)
 
 pub returns-clause-counts : goal.returns-clause-counts
 returns-clause-counts g c = λ i to l ok.
     let k = g.T.FromCbor.typed.keeps in
     let other = c.if-null.ensures.at i to l in
     let counted = c.in_ok-read.ensures.counts i to (stands_missed i other.1 l) (refl {a = true}) in
-    kept_other k i _ _ other.0 (kept_later k i _ _ _ (rises (onward_of _ _ c.if-null.ensures.went)) counted)
+    kept_other k i _ _ other.0 (kept_later k i _ _ _ (rises (onward_of _ _ c.if-null.ensures.moves)) counted)

@@ -42,4 +42,4 @@ returns-then-skip-clause-counts g c = λ i to l ok.
     let read = c.in-Err-Refused.ensures.reads i to l in
     let is = c.in-Err-Refused.field-0-is in
     kept_refused g.T.FromCbor.typed.of g.T.FromCbor.typed.keeps i _ _ (grind (arith, read, is))
-    (rises_again c.in-Err-Refused.ensures.onward c.go_back.ensures c.if-skip.ensures.went)
+    (rises_again c.in-Err-Refused.ensures.onward c.go_back.ensures c.if-skip.ensures.moves)

@@ -27,4 +27,4 @@ returns-in-Err-OutOfRangeIntegerValue-clause-reads c = λ i to l.
 pub returns-in-Ok-clause-counts : goal.returns-in-Ok-clause-counts
 returns-in-Ok-clause-counts c = λ i to l ok.
     let v = c.in-Ok.ensures.values i to l in
-    record { heads = c.in-Ok.ensures.went.heads; nodes = omega (arith, v.nodes) }
+    record { heads = c.in-Ok.ensures.moves.heads; nodes = omega (arith, v.nodes) }

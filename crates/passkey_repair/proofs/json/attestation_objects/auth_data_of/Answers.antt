@@ -1,6 +1,6 @@
 use Rattle.std.proofs.Common.{map}
-use Rattle.passkey_cbor.proofs.Items.{members-pairs_of}
-use Rattle.passkey_cbor.proofs.Views.{item_of-Map}
+use Rattle.passkey_cbor.proofs.items.Items.{members-pairs_of}
+use Rattle.passkey_cbor.proofs.building.Views.{item_of-Map}
 use Rattle.passkey_cbor.specs.View.{pair_of}
 use Rattle.passkey_repair.proofs.json.attestation_objects.auth_data_of.Goals as goal
 

@@ -5,7 +5,7 @@ use Rattle.passkey_view.proofs.member.I64Key.pass.Goals as goal
 
 pub returns-then-skip-clause-passes : goal.returns-then-skip-clause-passes
 returns-then-skip-clause-passes c = λ x to l.
-    let bytes = ap (λ (w : CursorState). w.bytes) c.go_back.ensures ∙ c.head.ensures.went.same in
+    let bytes = ap (λ (w : CursorState). w.bytes) c.go_back.ensures ∙ c.head.ensures.moves.same in
     let place = ap (λ (w : CursorState). w.place) c.go_back.ensures ∙ c.place-start.ensures in
     let p = c.if-skip.ensures.passes x to (rw (bytes, place) l) in
     record {
@@ -16,8 +16,8 @@ returns-then-skip-clause-passes c = λ x to l.
 
 pub returns-else-skip-clause-passes : goal.returns-else-skip-clause-passes
 returns-else-skip-clause-passes c = λ x to l.
-    let bytes = ap (λ (w : CursorState). w.bytes) c.go_back.ensures ∙ c.head.ensures.went.same in
+    let bytes = ap (λ (w : CursorState). w.bytes) c.go_back.ensures ∙ c.head.ensures.moves.same in
     let place = ap (λ (w : CursorState). w.place) c.go_back.ensures ∙ c.place-start.ensures in
     let p = c.if-skip.ensures.passes x to (rw (bytes, place) l) in
-    let lie = p.is_found in
+    let found = p.is_found in
     absurd cc

@@ -21,5 +21,5 @@ pub returns-else-skip-clause-passes : goal.returns-else-skip-clause-passes
 returns-else-skip-clause-passes c = λ x to l.
     let other = c.in-None.ensures.lends x to l in
     let p = c.if-skip.ensures.passes x to (rw (other.1.bytes, other.1.place) l) in
-    let lie = p.is_found in
+    let found = p.is_found in
     absurd cc

@@ -2,7 +2,7 @@ use Rattle.passkey_kinds.proofs.Steps.{◌++◌, arith, true, ℕ, List, Option,
 use Rattle.passkey_ctap2.specs.GetInfo.{GetInfoParts, get_info_empty, get_info_fields, get_info_parts, extension, first_members, middle_members, last_members}
 use Rattle.passkey_ctap2.specs.declared.get_info.extension.Extension.{Extension}
 use Rattle.passkey_kinds.specs.Typed.{below, list, optional, text_as}
-use Rattle.passkey_ctap2.proofs.Groups.{IsNone, puts_behind}
+use Rattle.passkey_ctap2.proofs.Groups.{IsNone, puts_after}
 use Rattle.passkey_ctap2.proofs.get_info.response.ResponseRecord.put.Goals as goal
 
 pub returns-in-2-clause-puts : goal.returns-in-2-clause-puts
@@ -27,5 +27,5 @@ returns-in-6-clause-puts g c = λ i to at.
 pub returns-in_default-clause-puts : goal.returns-in_default-clause-puts
 returns-in_default-clause-puts g c = λ i to at.
     let elsewhere : IsNone first_members c.args.number = grind arith in
-    puts_behind true get_info_empty first_members (middle_members ++ last_members) c.args.number i _ _
+    puts_after true get_info_empty first_members (middle_members ++ last_members) c.args.number i _ _
     c.set_middle_member.result elsewhere (c.set_middle_member.ensures.puts i to at)

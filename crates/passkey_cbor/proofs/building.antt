@@ -1,0 +1,5 @@
+pub mod Cloning
+pub mod Views
+pub mod Gathering
+pub mod Valuing
+pub mod Counted

@@ -1,0 +1,9 @@
+pub mod Numbers
+pub mod HeadAgain
+pub mod HeadTakes
+pub mod Raised
+pub mod HeadCounts
+pub mod WholeHeads
+pub mod HeadsDecoded
+pub mod Shortest
+pub mod ShortHeads

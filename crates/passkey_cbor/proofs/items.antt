@@ -1,0 +1,16 @@
+pub mod Binds
+pub mod Lists
+pub mod Items
+pub mod LeadingItems
+pub mod Comparing
+pub mod Deepest
+pub mod Writing
+pub mod WrittenIsEncoding
+pub mod Shrinking
+pub mod EncodedFrom
+pub mod Null
+pub mod More
+pub mod MapMembers
+pub mod Reach
+pub mod CanonicalItems
+pub mod Leaves

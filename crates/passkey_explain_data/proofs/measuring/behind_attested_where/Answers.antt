@@ -1,8 +1,0 @@
-use Rattle.passkey_core.specs.DataReading.{ReadsAttested}
-use Rattle.passkey_explain_data.proofs.DataLength.{where_ends}
-use Rattle.passkey_explain_data.proofs.measuring.behind_attested_where.Goals as goal
-
-pub returns-then-is_there : goal.returns-then-is_there
-returns-then-is_there c =
-    where_ends c.args.is_there ReadsAttested c.args.rest.now c.behind_attested.result.now c.if-is_there.true
-    c.behind_attested.ensures
