@@ -58,11 +58,7 @@ fn after_chunks(is_text: bool, bytes: &[u8]) -> Result<&[u8], Stop<'_>>
 }
 
 /// Returns the bytes after a string whose head has this length.
-pub(crate) fn after_string(
-    is_text: bool,
-    len: Option<u64>,
-    bytes: &[u8],
-) -> Result<&[u8], Stop<'_>>
+pub(crate) fn after_string(is_text: bool, len: Option<u64>, bytes: &[u8]) -> Result<&[u8], Stop<'_>>
     ensures { MatchResult result (λ rest. StringLeads is_text len bytes.now rest.now)
         (λ stop. StopsInString is_text len bytes.now stop.why stop.rest.now) }
 {

@@ -16,8 +16,7 @@ pub use passkey_bytes::{
     Bytes, BytesFault, Key, List, Map, NotBase64Encoded, OutOfMemory, Text, encoding,
 };
 pub use passkey_cbor as cbor;
-pub use passkey_cbor_text::diagnose as diagnose;
-pub use passkey_cbor_text::values as values;
+pub use passkey_cbor_text::{diagnose as diagnose, values as values};
 pub use passkey_stored::{CredentialExtensions, Passkey, PasskeyBuilder, StoredHmacSecret};
 pub use passkey_view as view;
 pub use rand_core::Rng;
