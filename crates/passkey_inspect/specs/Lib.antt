@@ -1,3 +1,4 @@
 pub mod Frame
 pub mod Kinds
+pub mod LineByLine
 pub mod Prints

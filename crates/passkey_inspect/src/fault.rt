@@ -16,6 +16,8 @@ pub enum InspectFault {
     Refused(String),
     /// The same, with a page of HTML that shows it, for standard output; status 1.
     RefusedPage(String, String),
+    /// So many lines were refused; status 1.
+    RefusedLines(u64),
     /// The input isn't base64; status 1.
     BadBase64,
     /// An argument is none of the program's; status 2.
@@ -63,8 +65,10 @@ impl InspectFault {
     pub fn status(&self) -> u8 {
         match self {
             InspectFault::Run(fault) => fault.status(),
-            InspectFault::Refused(_) | InspectFault::RefusedPage(_, _) | InspectFault::BadBase64 =>
-                1,
+            InspectFault::Refused(_)
+            | InspectFault::RefusedPage(_, _)
+            | InspectFault::RefusedLines(_)
+            | InspectFault::BadBase64 => 1,
             InspectFault::BadArguments | InspectFault::BytesOnly(_) | InspectFault::NoKind(_) => 2,
             InspectFault::NoFile(_) => 4,
         }
@@ -79,6 +83,7 @@ impl fmt::Display for InspectFault {
             | InspectFault::RefusedPage(text, _)
             | InspectFault::NoKind(text)
             | InspectFault::NoFile(text) => f.write_str(text.as_str()),
+            InspectFault::RefusedLines(count) => write!(f, "lines refused: {count}"),
             InspectFault::BadBase64 => f.write_str("BadBase64"),
             InspectFault::BadArguments => f.write_str("bad arguments; --help lists them"),
             InspectFault::BytesOnly(output) => {

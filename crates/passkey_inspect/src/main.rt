@@ -9,6 +9,7 @@ mod frame;
 mod inspect;
 mod kind;
 mod kinds;
+mod line_by_line;
 mod nearest;
 mod newer_members;
 mod options;
@@ -20,6 +21,7 @@ mod undecoded;
 
 use fault::InspectFault;
 use kinds::all_kinds_text;
+use line_by_line::answer_lines;
 use nearest::{no_file, no_kind};
 use options::{HELP, Options, VERSION, options_of};
 use passkey_rewrite::{RunFault, read_all, read_words, write_all};
@@ -29,18 +31,42 @@ use std::io::{ErrorKind, Read, Write};
 use std::process::ExitCode;
 use std::rt::{Env, Files};
 
-/// Reads the file, or the reader if the file's name is a hyphen or none is named.
-fn read_input<R: Files + AllocGlobal>(
+/// Prints what is in the input, or in each of its lines.
+fn print<R: AllocGlobal>(
     rt: &R,
+    options: &Options<'_>,
     reader: &mut impl Read,
-    file: Option<&str>,
-) -> Result<Vec<u8>, InspectFault> {
-    let path = file.unwrap_or("-");
+    writer: &mut impl Write,
+) -> Result<(), InspectFault> {
+    if options.lines {
+        return match answer_lines(rt.alloc(), options, reader, writer)? {
+            0 => Ok(()),
+            refused => Err(InspectFault::RefusedLines(refused)),
+        };
+    }
+    let input = read_all(rt.alloc(), reader)?;
+    match inspect::inspect(rt.alloc(), options, input.as_slice()) {
+        Ok(text) => Ok(write_all(writer, text.as_bytes())?),
+        Err(fault) => {
+            write_all(writer, fault.output().as_bytes())?;
+            Err(fault)
+        }
+    }
+}
+
+/// Prints what is in the file, or in the reader if the file's name is a hyphen or none is named.
+fn print_file<R: Files + AllocGlobal>(
+    rt: &R,
+    options: &Options<'_>,
+    reader: &mut impl Read,
+    writer: &mut impl Write,
+) -> Result<(), InspectFault> {
+    let path = options.file.unwrap_or("-");
     if path == "-" {
-        return Ok(read_all(rt.alloc(), reader)?);
+        return print(rt, options, reader, writer);
     }
     match fs::open(rt, path) {
-        Ok(mut file) => Ok(read_all(rt.alloc(), &mut file)?),
+        Ok(mut file) => print(rt, options, &mut file, writer),
         Err(error) if error.kind() == ErrorKind::NotFound => Err(no_file(rt.alloc(), path)?),
         Err(_) => Err(InspectFault::Run(RunFault::InputFailed)),
     }
@@ -66,14 +92,7 @@ fn show<R: Env + Files + AllocGlobal>(
     if let Some(word) = options.stray {
         return Err(no_kind(rt.alloc(), word)?);
     }
-    let input = read_input(rt, reader, options.file)?;
-    match inspect::inspect(rt.alloc(), &options, input.as_slice()) {
-        Ok(text) => Ok(write_all(writer, text.as_bytes())?),
-        Err(fault) => {
-            write_all(writer, fault.output().as_bytes())?;
-            Err(fault)
-        }
-    }
+    print_file(rt, &options, reader, writer)
 }
 
 fn main(rt: HostRuntime) -> ExitCode {

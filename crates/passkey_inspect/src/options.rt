@@ -16,6 +16,7 @@ xxd and hexdump -C dump it), base64, base64url, JSON and raw bytes.
   --hex         the bytes head by head, explained       passkey_inspect --hex FILE
   --cbor        encoded again, in hexadecimal           passkey_inspect --cbor info FILE
   --html        a page: members beside their bytes      passkey_inspect --html FILE >page.html
+  --lines       one input a line, one answer a line: JSON, or what --cbor prints
   --from FORM   hex, base64, raw or json                passkey_inspect --from raw auth FILE
   --kinds       the kinds: name, number in C, form and standard, tabs between
   -h, --help    this text
@@ -96,6 +97,8 @@ pub struct Options<'a> {
     pub output: Output,
     /// The input's form; `None` if it is to be found.
     pub form: Option<Form>,
+    /// Whether each line is an input, which is answered in a line.
+    pub lines: bool,
     /// Whether help is printed instead.
     pub help: bool,
     /// Whether the version is printed instead.
@@ -123,6 +126,7 @@ fn set_option(options: &mut Options<'_>, word: &str) -> bool {
         "--hex" => options.output = Output::Dump,
         "--cbor" => options.output = Output::Encoding,
         "--html" => options.output = Output::Page,
+        "--lines" => options.lines = true,
         "-h" | "--help" => options.help = true,
         "--version" => options.version = true,
         "--kinds" => options.kinds = true,
@@ -151,6 +155,15 @@ fn set_operand<'a>(options: &mut Options<'a>, word: &'a str) -> bool {
     true
 }
 
+/// Has each line answered as JSON, if lines are answered and nothing else was asked for. Returns whether
+/// what is asked for has a line.
+fn set_lines(options: &mut Options<'_>) -> bool {
+    if options.lines && options.output == Output::Report {
+        options.output = Output::Json;
+    }
+    !options.lines || options.output == Output::Json || options.output == Output::Encoding
+}
+
 /// Returns the options, or `None` if an argument is none, or is one too many. `-h`, and a word that
 /// begins with two hyphens, is an option; `--from` has a value after it or an equals sign, and the
 /// last of contradicting options is taken. The first operand that is the name of a kind is the kind,
@@ -162,6 +175,7 @@ pub fn options_of(words: &[String]) -> Option<Options<'_>> {
         stray: None,
         output: Output::Report,
         form: None,
+        lines: false,
         help: false,
         version: false,
         kinds: false,
@@ -184,7 +198,7 @@ pub fn options_of(words: &[String]) -> Option<Options<'_>> {
             return None;
         }
     }
-    if takes_form {
+    if takes_form || !set_lines(&mut options) {
         return None;
     }
     Some(options)
