@@ -1,7 +1,7 @@
 -- Data items that bytes encode from the first to the last.
 use Rattle.std.proofs.Common.{◌≡◌, ◌∙◌, ℕ, ◌<◌, ◌≤◌, arith, Bool, true, false, List, [], ◌∷◌, length, drop, Option, Some, None, Ok, Err, refl, sym, ap}
 use Rattle.std.proofs.lemmas.List.{drop_all, length-drop}
-use Rattle.std.proofs.Common.{Global, IfOk, Result, Vec, append-nil, subst}
+use Rattle.std.proofs.Common.{Global, IfOk, Result, String, append-nil, string_bytes, subst}
 use Rattle.std.specs.Option.{option_and_then}
 use Rattle.std.specs.Result.{result_ok}
 use Rattle.hex.proofs.HexLemmas.{decode_of-encode_lower}
@@ -61,9 +61,9 @@ digits_mean found law i fits writable few =
     ∙ whole_item found (written i) i (length (written i)) front (omega arith)
 
 pub escape_made : LeadingItemIsFound → WrittenIsLeadingItem → (i : Item) (bytes : List ℕ)
-    (r : Result (Vec ℕ Global) OutOfMemory) → bytes ≡ written i → IsBytes bytes → IsWritable i → depth i ≤ max_depth
-    → IfOk r (λ text. document text.items ≡ Some (escaped (encode_lower bytes)))
-    → IfOk r (λ text. IsEscapeOf i text.items)
+    (r : Result (String Global) OutOfMemory) → bytes ≡ written i → IsBytes bytes → IsWritable i → depth i ≤ max_depth
+    → IfOk r (λ text. document (string_bytes text) ≡ Some (escaped (encode_lower bytes)))
+    → IfOk r (λ text. IsEscapeOf i (string_bytes text))
 escape_made found law i bytes (Ok text) is fits writable few parsed = record {
   digits = encode_lower (written i);
   parsed = parsed ∙ ap (λ (bs : List ℕ). Some (escaped (encode_lower bs))) is;
@@ -72,7 +72,7 @@ escape_made found law i bytes (Ok text) is fits writable few parsed = record {
 escape_made found law i bytes (Err e) is fits writable few parsed = tt
 
 -- an escape is the data item wherever it stands
-pub escape_means : (f : StringForm) (i : Item) (r : Result (Vec ℕ Global) OutOfMemory)
-    → IfOk r (λ text. IsEscapeOf i text.items) → IfOk r (λ text. IsJsonOf (leaf_item f) i text.items)
+pub escape_means : (f : StringForm) (i : Item) (r : Result (String Global) OutOfMemory)
+    → IfOk r (λ text. IsEscapeOf i (string_bytes text)) → IfOk r (λ text. IsJsonOf (leaf_item f) i (string_bytes text))
 escape_means f i (Ok text) e = record { value = escaped e.digits; parsed = e.parsed; meant = rw e.meant refl }
 escape_means f i (Err e) is = tt

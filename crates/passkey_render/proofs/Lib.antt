@@ -1,3 +1,4 @@
+pub mod NoItems
 pub mod Opening
 pub mod Texts
 mod Typing

@@ -1,5 +1,5 @@
 -- JSON values as data items, by the shape of a type.
-use Rattle.std.proofs.Common.{Bor, Global, Vec, ◌≡◌, ◌∙◌, ℕ, suc, ◌+◌, ◌==◌, add-one, Bool, true, false, List, [], ◌∷◌, ◌++◌, map, Option, Some, None, is_some, IfOk, Result, Ok, Err, refl, rules, sym, ap, subst, if◌then◌else◌}
+use Rattle.std.proofs.Common.{Bor, Global, Vec, ◌≡◌, ◌∙◌, ℕ, suc, ◌+◌, ◌==◌, add-one, Bool, true, false, List, [], ◌∷◌, ◌++◌, map, Option, Some, None, is_some, IfOk, Result, Ok, Err, String, string_bytes, refl, rules, sym, ap, subst, if◌then◌else◌}
 use Rattle.json.proofs.Trees.{view-Array, view-Object}
 use Rattle.json.specs.Json.{Json}
 use Rattle.json.specs.Json as json
@@ -44,7 +44,7 @@ module _ {A B : Type 0} (of : A → Read B) (before : List B) (n : ℕ) (x : A) 
 
 -- ---- looking at JSON values
 
-items_again : (js : List Json) → items_in (items_of js) ≡ js
+pub items_again : (js : List Json) → items_in (items_of js) ≡ js
 items_again [] = refl
 items_again (j ∷ js) = ap (λ (is : List Json). j ∷ is) (items_again js)
 
@@ -62,7 +62,7 @@ pub no_members : (v : Value Global) → ((a : Vec (Bor (List ℕ) × Value Globa
     → members_of (value_view v) ≡ None
 no_members v h = search (rules, the_lemmas, h)
 
-members_again : (ms : List (Bor (List ℕ) × Value Global)) → members_in (members_view ms) ≡ map named_in ms
+pub members_again : (ms : List (Bor (List ℕ) × Value Global)) → members_in (members_view ms) ≡ map named_in ms
 members_again [] = refl
 members_again (m ∷ ms) = ap (λ (ns : List Named). named_in m ∷ ns) (members_again ms)
 
@@ -201,8 +201,8 @@ escape_typed (shape.map a x) digits i e = rw e refl
 escape_typed (record_of b rs) digits i e = rw e refl
 escape_typed (shape.tolerant a x) digits i e = escape_typed x digits i e
 
-pub escape_there : (s : Shape) (i : Item) (r : Result (Vec ℕ Global) OutOfMemory)
-    → IfOk r (λ text. IsEscapeOf i text.items) → IfOk r (λ text. IsJsonOf (json_item s) i text.items)
+pub escape_there : (s : Shape) (i : Item) (r : Result (String Global) OutOfMemory)
+    → IfOk r (λ text. IsEscapeOf i (string_bytes text)) → IfOk r (λ text. IsJsonOf (json_item s) i (string_bytes text))
 escape_there s i (Ok text) e =
     record { value = escaped e.digits; parsed = e.parsed; meant = escape_typed s e.digits i e.meant }
 escape_there s i (Err e) is = tt

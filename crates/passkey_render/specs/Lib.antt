@@ -1,3 +1,4 @@
 pub mod Json
+pub mod NoItemText
 pub mod Opened
 pub mod Typed

@@ -1,5 +1,5 @@
 //! Messages as JSON texts, from which they are read back by their tables.
-ghost use Rattle.std.specs.Prelude.{◌≤◌, IfOk, IsTrue};
+ghost use Rattle.std.specs.Prelude.{◌≤◌, IfOk, IsTrue, string_bytes};
 ghost use Rattle.passkey_cbor.specs.Depth.{depth};
 ghost use Rattle.passkey_cbor.specs.LeadingItem.{max_depth};
 ghost use Rattle.passkey_cbor.specs.View.{item_of};
@@ -126,14 +126,14 @@ fn is_json_of<M: Message>(alloc: Global, text: &str, value: &Value) -> Result<bo
 pub fn json_from_message_item<M: Message>(
     alloc: Global,
     value: &Value,
-) -> Result<Vec<u8>, OutOfMemory>
+) -> Result<String, OutOfMemory>
     requires { depth (item_of value.now) ≤ max_depth }
     ensures { IfOk result
-        (λ text. IsJsonOf (json_item (shape_of M.Record.fields)) (item_of value.now) text.items) }
+        (λ text. IsJsonOf (json_item (shape_of M.Record.fields)) (item_of value.now) (string_bytes text)) }
 {
     let text = friendly_message::<M>(alloc, value)?;
     if is_json_of::<M>(alloc, text.as_str(), value)? {
-        return Ok(text.into_bytes());
+        return Ok(text);
     }
     escape_of_item(alloc, value)
 }

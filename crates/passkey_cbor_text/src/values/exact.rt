@@ -1,5 +1,5 @@
 //! Data items as JSON texts, from which they are read back.
-ghost use Rattle.std.specs.Prelude.{◌≡◌, ◌≤◌, IfOk, IsTrue, Some};
+ghost use Rattle.std.specs.Prelude.{◌≡◌, ◌≤◌, IfOk, IsTrue, Some, string_bytes};
 ghost use Rattle.hex.specs.Hex.{encode_lower};
 ghost use Rattle.json.specs.Json.{document};
 ghost use Rattle.passkey_cbor.specs.Bytes.{IsBytes};
@@ -17,19 +17,20 @@ use passkey_memory::OutOfMemory;
 use std::alloc::Global;
 
 /// Returns the escape with these digits.
-fn escape_text(alloc: Global, digits: &str) -> Result<Vec<u8>, OutOfMemory>
-    ensures { IfOk result (λ text. document text.items ≡ Some (escaped digits.now)) }
+fn escape_text(alloc: Global, digits: &str) -> Result<String, OutOfMemory>
+    ensures { IfOk result (λ text. document (string_bytes text) ≡ Some (escaped digits.now)) }
 {
     let mut members = Vec::new(alloc);
     members.push(("$cbor", Json::String(digits)))?;
-    Ok(json::to_vec(alloc, &Json::Object(members))?)
+    let text = json::to_vec(alloc, &Json::Object(members))?;
+    Ok(String::from_utf8(text).unwrap())
 }
 
 /// Returns the escape of the item with this encoding.
-fn escape_encoding(alloc: Global, encoding: &[u8]) -> Result<Vec<u8>, OutOfMemory>
+fn escape_encoding(alloc: Global, encoding: &[u8]) -> Result<String, OutOfMemory>
     ensures fits { IsBytes encoding.now }
     ensures parsed { IfOk result
-        (λ text. document text.items ≡ Some (escaped (encode_lower encoding.now))) }
+        (λ text. document (string_bytes text) ≡ Some (escaped (encode_lower encoding.now))) }
 {
     let digits = hex::encode(alloc, encoding)?;
     escape_text(alloc, digits.as_str())
@@ -37,9 +38,9 @@ fn escape_encoding(alloc: Global, encoding: &[u8]) -> Result<Vec<u8>, OutOfMemor
 
 /// Returns the data item as JSON by its encoding alone, as an escape. Returns `OutOfMemory` if an allocation
 /// fails.
-pub fn escape_of_item(alloc: Global, value: &Value) -> Result<Vec<u8>, OutOfMemory>
+pub fn escape_of_item(alloc: Global, value: &Value) -> Result<String, OutOfMemory>
     requires { depth (item_of value.now) ≤ max_depth }
-    ensures { IfOk result (λ text. IsEscapeOf (item_of value.now) text.items) }
+    ensures { IfOk result (λ text. IsEscapeOf (item_of value.now) (string_bytes text)) }
 {
     passkey_cbor::laws::leading_item_is_found();
     passkey_cbor::laws::written_is_leading_item();
@@ -76,13 +77,13 @@ pub fn json_from_item(
     alloc: Global,
     form: StringForm,
     value: &Value,
-) -> Result<Vec<u8>, OutOfMemory>
+) -> Result<String, OutOfMemory>
     requires { depth (item_of value.now) ≤ max_depth }
-    ensures { IfOk result (λ text. IsJsonOf (leaf_item form) (item_of value.now) text.items) }
+    ensures { IfOk result (λ text. IsJsonOf (leaf_item form) (item_of value.now) (string_bytes text)) }
 {
     let text = friendly_json(alloc, form, value)?;
     if is_json_of(alloc, form, text.as_str(), value)? {
-        return Ok(text.into_bytes());
+        return Ok(text);
     }
     escape_of_item(alloc, value)
 }
