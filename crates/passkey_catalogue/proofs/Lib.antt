@@ -1,1 +1,2 @@
 pub mod Structures
+pub mod ValuesBack

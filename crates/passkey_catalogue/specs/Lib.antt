@@ -8,3 +8,4 @@ pub mod Numbers
 pub mod Rewriting
 pub mod Rows
 pub mod Sources
+pub mod Values
