@@ -5,3 +5,5 @@ pub mod Leading
 pub mod Going
 pub mod Judged
 pub mod Suffixes
+pub mod Breaking
+pub mod BrokenThere

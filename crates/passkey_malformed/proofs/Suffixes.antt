@@ -11,7 +11,7 @@ use Rattle.passkey_malformed.specs.declared.why.Why.TheVariants as reason
 abbrev pub EndsIn : List ℕ → List ℕ → Type 0
 EndsIn bytes rest = (front : List ℕ) × (bytes ≡ front ++ rest)
 
-whole : (bytes rest : List ℕ) → rest ≡ bytes → EndsIn bytes rest
+pub whole : (bytes rest : List ℕ) → rest ≡ bytes → EndsIn bytes rest
 whole bytes rest e = ([], sym e)
 
 nothing : (bytes rest : List ℕ) → rest ≡ [] → EndsIn bytes rest
@@ -23,7 +23,7 @@ after bytes following rest b e = (
   b.parts ∙ ap (λ (r : List ℕ). b.text ++ r) e.1 ∙ sym (append_assoc b.text e.0 rest),
 )
 
-no_head : (bytes : List ℕ) (why : Why) (rest : List ℕ) → NoHead bytes why rest → EndsIn bytes rest
+pub no_head : (bytes : List ℕ) (why : Why) (rest : List ℕ) → NoHead bytes why rest → EndsIn bytes rest
 no_head bytes reason.CutOff rest n = nothing bytes rest n.1
 no_head bytes reason.ReservedArgument rest n = whole bytes rest n.1
 no_head bytes reason.BadSimple rest n = whole bytes rest n.1
@@ -33,7 +33,7 @@ no_head bytes reason.NotUtf8 rest n = absurd n
 no_head bytes reason.TooDeep rest n = absurd n
 no_head bytes reason.OddMap rest n = absurd n
 
-no_piece : (is_text : Bool) (n : ℕ) (bytes : List ℕ) (why : Why) (rest : List ℕ) → NoPiece is_text n bytes why rest
+pub no_piece : (is_text : Bool) (n : ℕ) (bytes : List ℕ) (why : Why) (rest : List ℕ) → NoPiece is_text n bytes why rest
     → EndsIn bytes rest
 no_piece is_text n bytes reason.CutOff rest p = nothing bytes rest p.1
 no_piece is_text n bytes reason.NotUtf8 rest p = whole bytes rest p.3

@@ -1,2 +1,4 @@
 pub mod Stops
 pub mod Why
+pub mod Rules
+pub mod Breaks
