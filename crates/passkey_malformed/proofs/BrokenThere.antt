@@ -6,6 +6,7 @@ use Rattle.passkey_cbor.specs.Written.{written}
 use Rattle.passkey_cbor.specs.declared.head.Head.{Head}
 use Rattle.passkey_malformed.specs.Breaks.{Breaks, BreaksInItems, BreaksInPairs, BreaksOff, IsNotCanonical, NoShortestHead, after_item, after_pair, at_head, at_item, barred, in_array, in_item, in_key, in_map, in_string, in_value, longer, misplaced, none, trailing}
 use Rattle.passkey_malformed.specs.declared.rule.Rule.{Rule}
+use Rattle.passkey_malformed.proofs.Exclusive.{not_whole}
 use Rattle.passkey_malformed.proofs.Suffixes.{EndsIn, no_head, no_piece, whole}
 
 after_shortest : (h : Head) (bytes following rest : List ℕ) → BeginsShortest h bytes following → EndsIn following rest
@@ -23,7 +24,7 @@ after_one levels bytes next rest b e = (
 )
 
 no_shortest : (bytes : List ℕ) (r : Rule) (rest : List ℕ) → NoShortestHead bytes r rest → EndsIn bytes rest
-no_shortest bytes r rest (none why is n) = no_head bytes why rest n
+no_shortest bytes r rest (none why is absent n) = no_head bytes why rest n
 no_shortest bytes r rest (longer h following b other is there) = whole bytes rest there
 
 mutual
@@ -67,6 +68,7 @@ is_not_canonical {limit = limit} bytes r rest is b =
     let e = ends b in
     let count : length e.0 ≡ length bytes - length rest = omega (arith, ap length e.1, length-append e.0 rest) in
     record {
+      none = λ whole. not_whole limit bytes r rest (subst (λ (n : ℕ). BreaksOff n bytes r rest) is b) whole;
       within = omega arith;
       breaks = subst (BreaksOff limit bytes r)
           (sym (ap (drop (length bytes - length rest)) e.1 ∙ drop_at e.0 rest (length bytes - length rest) count))

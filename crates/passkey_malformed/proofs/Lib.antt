@@ -7,3 +7,4 @@ pub mod Judged
 pub mod Suffixes
 pub mod Breaking
 pub mod BrokenThere
+pub mod Exclusive

@@ -11,7 +11,7 @@ use Rattle.passkey_cbor.specs.Order.{ctap2_order}
 use Rattle.passkey_cbor.specs.Written.{written}
 use Rattle.passkey_cbor.specs.declared.head.Head.{Head}
 use Rattle.passkey_cbor.specs.declared.head.Head.TheVariants as head
-use Rattle.passkey_malformed.specs.Stops.{Begins, NoHead, NoPiece}
+use Rattle.passkey_malformed.specs.Stops.{Begins, HasNoHead, NoHead, NoPiece}
 use Rattle.passkey_malformed.specs.declared.rule.NotCanonical.{NotCanonical}
 use Rattle.passkey_malformed.specs.declared.rule.Rule.{Rule}
 use Rattle.passkey_malformed.specs.declared.rule.Rule.TheVariants as rule
@@ -22,7 +22,7 @@ use Rattle.passkey_malformed.specs.declared.why.Why.TheVariants as reason
 
 -- The bytes begin with no head, or with one that has a shorter encoding.
 pub data NoShortestHead (bytes : List ℕ) (r : Rule) (rest : List ℕ) : Type 0 where
-  none : (why : Why) → r ≡ rule.WellFormed why → NoHead bytes why rest → NoShortestHead bytes r rest
+  none : (why : Why) → r ≡ rule.WellFormed why → HasNoHead bytes → NoHead bytes why rest → NoShortestHead bytes r rest
   longer : (h : Head) (following : List ℕ) (b : Begins (IsEncodingOfHead h) bytes following)
       → (b.text ≡ head_written h → ⊥) → r ≡ rule.ShortestHead → rest ≡ bytes → NoShortestHead bytes r rest
 
@@ -124,5 +124,6 @@ pub data BreaksOff (levels : ℕ) (bytes : List ℕ) (r : Rule) (rest : List ℕ
 
 -- The bytes aren't one canonical data item: at the offset they break off to be one, and the rule is broken there.
 pub record IsNotCanonical (levels : ℕ) (bytes : List ℕ) (n : NotCanonical) : Type 0 where
+  pub none : IsCanonicalWithin levels bytes → ⊥
   pub within : n.offset ≤ length bytes
   pub breaks : BreaksOff levels bytes n.rule (drop n.offset bytes)

@@ -30,7 +30,7 @@ pub(crate) fn cut_off(bytes: &[u8]) -> Stop<'_>
 /// Returns the head at the beginning of the bytes and the bytes after it, or why none is there.
 pub(crate) fn after_head(bytes: &[u8]) -> Result<(Head, &[u8]), Stop<'_>>
     ensures { MatchResult result (λ r. Begins (IsEncodingOfHead r.0) bytes.now r.1.now)
-        (λ s. NoHead bytes.now s.why s.rest.now) }
+        (λ s. HasNoHead bytes.now × NoHead bytes.now s.why s.rest.now) }
 {
     let mut cursor = Cursor::new(bytes);
     match cursor.head() {

@@ -6,8 +6,8 @@ use Rattle.passkey_malformed.proofs.canonical.after_shortest_head.Goals as goal
 
 pub returns-in-Err : goal.returns-in-Err
 returns-in-Err c =
-    none c.in-Err.stop.why c.not_well_formed.ensures.rule
-    (subst (NoHead c.args.bytes.now c.in-Err.stop.why) (sym c.not_well_formed.ensures.rest) c.in-Err.ensures)
+    none c.in-Err.stop.why c.not_well_formed.ensures.rule c.in-Err.ensures.0
+    (subst (NoHead c.args.bytes.now c.in-Err.stop.why) (sym c.not_well_formed.ensures.rest) c.in-Err.ensures.1)
 
 pub returns-then-bytes-following : goal.returns-then-bytes-following
 returns-then-bytes-following c =

@@ -7,7 +7,7 @@ use Rattle.passkey_malformed.proofs.Judged.{judged, headed, nests_array, nests_m
 use Rattle.passkey_malformed.proofs.items.+items.Goals as goal
 
 pub after_item-returns-in-Err : goal.after_item-returns-in-Err
-after_item-returns-in-Err t c = at_head c.in-Err.ensures
+after_item-returns-in-Err t c = at_head c.in-Err.ensures.1
 
 pub after_item-returns-in-Unsigned : goal.after_item-returns-in-Unsigned
 after_item-returns-in-Unsigned t c =

@@ -7,7 +7,7 @@ loop-found-init c = chunks_start c.args.is_text c.args.bytes.now (λ i. omega (a
 
 pub returns-in-Err : goal.returns-in-Err
 returns-in-Err c =
-    no_chunk_head c.args.is_text c.args.bytes.now c.loop-found.here.now _ _ c.loop-found.invariant c.in-Err.ensures
+    no_chunk_head c.args.is_text c.args.bytes.now c.loop-found.here.now _ _ c.loop-found.invariant c.in-Err.ensures.1
 
 pub returns-in-Break : goal.returns-in-Break
 returns-in-Break c =
