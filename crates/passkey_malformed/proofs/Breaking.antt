@@ -103,9 +103,6 @@ pub record ItemsOn (levels count : ℕ) (bytes : List ℕ) (left : ℕ) (here : 
   pub breaks : (r : Rule) (rest : List ℕ) → BreaksInItems levels left here r rest
       → BreaksInItems levels count bytes r rest
 
-pub items_start : (levels count : ℕ) (bytes : List ℕ) → ItemsOn levels count bytes count bytes
-items_start levels count bytes = record { go = record { same = λ u. ((λ b. b), (λ b. b)) }; breaks = λ r rest b. b }
-
 module _ {levels count : ℕ} {bytes : List ℕ} {left : ℕ} {here : List ℕ} (on : ItemsOn levels count bytes left here) where
   pub items_on : (next : List ℕ) → 0 < left → BeginsItem levels here next → ItemsOn levels count bytes (left - 1) next
   items_on next some one = record {
@@ -137,10 +134,6 @@ pub record PairsOn (levels count : ℕ) (bytes : List ℕ) (left : ℕ) (before 
     pub go : PairsGo levels count bytes left before here
     pub breaks : (r : Rule) (rest : List ℕ) → BreaksInPairs levels left before here r rest
         → BreaksInPairs levels count None bytes r rest
-
-pub pairs_start : (levels count : ℕ) (bytes : List ℕ) → PairsOn levels count bytes count None bytes
-pairs_start levels count bytes =
-    record { go = record { same = λ u. ((λ b. b), (λ b. b)); long = tt }; breaks = λ r rest b. b }
 
 module _ {levels count : ℕ} {bytes : List ℕ} {left : ℕ} {before : Option (List ℕ)} {here : List ℕ}
     (on : PairsOn levels count bytes left before here) (some : 0 < left) where

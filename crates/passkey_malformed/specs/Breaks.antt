@@ -50,6 +50,14 @@ head_rule levels (head.Simple n) = if n == 23 then Some rule.NoUndefined else No
 head_rule levels (head.Float f) = None
 head_rule levels head.Break = Some (rule.WellFormed reason.StrayBreak)
 
+-- ---- strings
+
+-- The bytes don't begin with the content of a string of n bytes.
+pub record NoContent (is_text : Bool) (n : ℕ) (bytes : List ℕ) (r : Rule) (rest : List ℕ) : Type 0 where
+  pub why : Why
+  pub is : r ≡ rule.WellFormed why
+  pub none : NoPiece is_text n bytes why rest
+
 -- ---- keys
 
 abbrev pub order_rule : Ordering → Option Rule
@@ -63,12 +71,6 @@ key_rule None key = None
 key_rule (Some before) key = order_rule (ctap2_order before key)
 
 -- ---- data items
-
--- The bytes don't begin with the content of a string of n bytes.
-pub record NoContent (is_text : Bool) (n : ℕ) (bytes : List ℕ) (r : Rule) (rest : List ℕ) : Type 0 where
-  pub why : Why
-  pub is : r ≡ rule.WellFormed why
-  pub none : NoPiece is_text n bytes why rest
 
 mutual
   -- Where a canonical data item of at most `levels` levels belongs, the bytes go on with none, since this rule is
