@@ -7,3 +7,4 @@ pub mod Requests
 pub mod Places
 pub mod Sorting
 pub mod Ascending
+pub mod CanonicalOrder

@@ -4,7 +4,7 @@ use Rattle.passkey_cbor.specs.Item.{Item, Items, Pairs, array, item, members, no
 use Rattle.passkey_cbor.specs.Item as spec
 use Rattle.passkey_cbor.specs.Order.{ctap2_order}
 use Rattle.passkey_cbor.specs.Written.{written}
-use Rattle.passkey_registered.specs.extensions.Others.{with_all}
+use Rattle.passkey_registered.specs.extensions.Others.{AreApart, with_all}
 use Rattle.passkey_kinds.specs.Words.{Members}
 use Rattle.std.specs.Ordering.{is_lt}
 
@@ -27,6 +27,22 @@ abbrev mutual
   pub canonical_pairs : Pairs → Pairs
   canonical_pairs no_pairs = no_pairs
   canonical_pairs (pair k v ps) = pair (canonical_form k) (canonical_form v) (canonical_pairs ps)
+
+-- There is no tag in the item, and no key twice in a map of its canonical form.
+abbrev mutual
+  pub HasCanonicalForm : Item → Type 0
+  HasCanonicalForm (array xs) = HaveCanonicalForms xs
+  HasCanonicalForm (spec.map ps) = HavePairsCanonicalForms ps × AreApart (members (canonical_pairs ps)) []
+  HasCanonicalForm (tagged t x) = ⊥
+  HasCanonicalForm i = Unit {0}
+
+  pub HaveCanonicalForms : Items → Type 0
+  HaveCanonicalForms no_items = Unit {0}
+  HaveCanonicalForms (item x xs) = HasCanonicalForm x × HaveCanonicalForms xs
+
+  pub HavePairsCanonicalForms : Pairs → Type 0
+  HavePairsCanonicalForms no_pairs = Unit {0}
+  HavePairsCanonicalForms (pair k v ps) = (HasCanonicalForm k × HasCanonicalForm v) × HavePairsCanonicalForms ps
 
 -- a member with its key and its value in canonical form
 abbrev pub canonical_member : Item × Item → Item × Item

@@ -1,9 +1,10 @@
 //! The canonical form of data items.
 ghost use Rattle.std.specs.Prelude.{◌≡◌, ◌<◌, IfOk, OnOk, length, map};
 ghost use Rattle.std.specs.List.{All};
+ghost use Rattle.passkey_cbor.specs.Canonical.{IsOrdered};
 ghost use Rattle.passkey_cbor.specs.View.{item_of, pair_of};
 ghost use Rattle.passkey_kinds.specs.Words.{written};
-ghost use Rattle.passkey_registered.specs.CanonicalForm.{AreKeysOf, canonical_form, canonical_member, place_among, sorted};
+ghost use Rattle.passkey_registered.specs.CanonicalForm.{AreKeysOf, HasCanonicalForm, canonical_form, canonical_member, place_among, sorted};
 ghost use Rattle.passkey_registered.specs.extensions.Others.{placed};
 
 use passkey_cbor::{Value, ctap2_order};
@@ -88,8 +89,10 @@ fn in_order(alloc: Global, value: &Value) -> Result<Value, OutOfMemory>
 /// out, and members with equal keys stay in their order. Its encoding is canonical, unless it has a tag
 /// or a map with a key twice, which have no canonical form (CTAP 2.2, section 8). Takes quadratic time
 /// in the members of a map that is out of order. Returns `OutOfMemory` if an allocation fails.
+#[tactic(auto, using(crate::proofs::CanonicalOrder::is_ordered))]
 pub fn in_canonical_form(alloc: Global, item: &Value) -> Result<Value, OutOfMemory>
-    ensures { IfOk result (λ v. item_of v ≡ canonical_form (item_of item.now)) }
+    ensures form { IfOk result (λ v. item_of v ≡ canonical_form (item_of item.now)) }
+    ensures ordered { IfOk result (λ v. HasCanonicalForm (item_of item.now) → IsOrdered (item_of v)) }
 {
     in_order(alloc, item)
 }
