@@ -17,9 +17,10 @@ use Rattle.passkey_rewrite.specs.RewritesJson.{RewritesJson}
 use Rattle.passkey_inspect.specs.Frame.{body_in, kind_in}
 use Rattle.passkey_inspect.specs.declared.options.Options.{Options}
 use Rattle.passkey_inspect.specs.declared.options.Output.{Output}
-use Rattle.passkey_inspect.specs.declared.options.Output.TheVariants.{Report, Json as JsonText, Diagnosis, Bytes as BytesText, Encoding}
+use Rattle.passkey_inspect.specs.declared.options.Output.TheVariants.{Report, Json as JsonText, Diagnosis, Bytes as BytesText, Encoding, FromValues, Values}
 use Rattle.passkey_catalogue.specs.Catalogue.{definition, is_json, json_of}
 use Rattle.passkey_catalogue.specs.Rewriting.{Encodes}
+use Rattle.passkey_catalogue.specs.Values.{EncodesValues, ShowsValues}
 use Rattle.passkey_catalogue.specs.declared.any_json_kind.AnyJsonKind.{AnyJsonKind}
 use Rattle.passkey_catalogue.specs.declared.kind.Kind.{Kind}
 
@@ -46,13 +47,21 @@ pub record ShowsJson (text : List ℕ) : Type 0 where
   pub description : Described
   pub shown : text ≡ json_text description
 
+-- The line is the data item that begins the bytes as JSON, from which it is read back.
+pub record PrintsValues (kind : Kind) (bytes line : List ℕ) : Type 0 where
+  pub text : List ℕ
+  pub len : ℕ
+  pub values : ShowsValues (definition kind) bytes text len
+  pub shown : line ≡ text ++ 10 ∷ []
+
 -- What is printed of the bytes as the kind: exactly the encoding, or the item, or its bytes, in diagnostic notation, in
--- lines; or the JSON text of some description. Nothing is said of reports and of dumps.
+-- lines; or its JSON values; or the JSON text of some description. Nothing is said of reports and of dumps.
 abbrev pub Prints : Output → Kind → List ℕ → List ℕ → Type 0
 Prints Diagnosis kind bytes line = (text : List ℕ) × ShowsItem bytes text × (line ≡ text ++ 10 ∷ [])
 Prints BytesText kind bytes line = (text : List ℕ) × ShowsBytes bytes text × (line ≡ text ++ 10 ∷ [])
 Prints JsonText kind bytes line = (text : List ℕ) × ShowsJson text × (line ≡ text ++ 10 ∷ [])
 Prints Encoding kind bytes line = (text : List ℕ) × ShowsEncoding kind bytes text × (line ≡ text ++ 10 ∷ [])
+Prints Values kind bytes line = PrintsValues kind bytes line
 Prints _ kind bytes line = ⊤
 
 -- What is printed of the bytes as some kind.
@@ -112,6 +121,16 @@ form_in (Some form) kind input = form
 form_in None (Some kind) input = if is_json kind then Json else form_of input
 form_in None None input = form_of input
 
+-- The line is the encoding, in lower-case hexadecimal, of the data item that the JSON text is, as the kind that was named.
+abbrev pub PrintsEncoded : Option Kind → List ℕ → List ℕ → Type 0
+PrintsEncoded (Some kind) input line =
+    (encoding : List ℕ) × EncodesValues (definition kind) input encoding × (line ≡ encode_lower encoding ++ 10 ∷ [])
+PrintsEncoded None input line = ⊥
+
+abbrev pub PrintsOutput : Output → Form → Option Kind → List ℕ → List ℕ → Type 0
+PrintsOutput FromValues form kind = PrintsEncoded kind
+PrintsOutput output form kind = PrintsInForm form output kind
+
 -- What is printed of an input with these options.
 abbrev pub PrintsInput : Options → List ℕ → List ℕ → Type 0
-PrintsInput o input line = PrintsInForm (form_in o.form o.kind input) o.output o.kind input line
+PrintsInput o input = PrintsOutput o.output (form_in o.form o.kind input) o.kind input

@@ -1,6 +1,6 @@
 //! One run: reads bytes, and returns what is printed.
 ghost use Rattle.std.specs.Prelude.{◌≡◌, ◌++◌, ◌∷◌, [], IfOk, None, string_bytes};
-ghost use Rattle.passkey_inspect.specs.Prints.{Prints, PrintsAs, PrintsBytes, PrintsInput, PrintsSpelled, form_in, ShowsBytes};
+ghost use Rattle.passkey_inspect.specs.Prints.{Prints, PrintsAs, PrintsBytes, PrintsInForm, PrintsInput, PrintsSpelled, form_in, ShowsBytes};
 ghost use Rattle.passkey_inspect.specs.Prints.{ShowsEncoding, ShowsItem, ShowsJson};
 
 use crate::examine::{Contents, Examined, examine};
@@ -11,6 +11,7 @@ use crate::newer_members::newer_members_text;
 use crate::options::{Options, Output};
 use crate::records::print_record;
 use crate::undecoded::undecoded_text;
+use crate::values::{encode_text, values_text};
 use passkey_catalogue::encode;
 use passkey_cbor::{CborError, Value};
 use passkey_cbor_text::diagnose::{diagnose_bytes_indented, diagnose_indented};
@@ -223,20 +224,23 @@ fn text_of(
     body: &Body<'_>,
     kind: InspectKind,
     contents: &Contents,
-) -> Result<String, RunFault>
+) -> Result<String, InspectFault>
     ensures { IfOk result (λ text. Prints output kind body.now.bytes.now (string_bytes text)) }
 {
     match output {
         Output::Dump if is_data_item(kind) => Ok(dump(alloc, body.bytes)?),
-        Output::Report | Output::Dump => Ok(report_text(alloc, body, kind, contents)?),
+        Output::Report | Output::Dump | Output::FromValues => {
+            Ok(report_text(alloc, body, kind, contents)?)
+        }
         Output::Page => {
             let shown = if is_data_item(kind) { body.bytes } else { &[] };
             Ok(page_of(alloc, name_of(kind), &contents.description, shown)?)
         }
-        Output::Json => with_line_feed(json_text(alloc, &contents.description)?),
-        Output::Diagnosis => with_line_feed(item_text(alloc, body.bytes)?),
-        Output::Bytes => with_line_feed(bytes_text(alloc, body.bytes)?),
-        Output::Encoding => with_line_feed(encoding_text(alloc, kind, body.bytes)?),
+        Output::Json => Ok(with_line_feed(json_text(alloc, &contents.description)?)?),
+        Output::Diagnosis => Ok(with_line_feed(item_text(alloc, body.bytes)?)?),
+        Output::Bytes => Ok(with_line_feed(bytes_text(alloc, body.bytes)?)?),
+        Output::Encoding => Ok(with_line_feed(encoding_text(alloc, kind, body.bytes)?)?),
+        Output::Values => values_text(alloc, kind, body.bytes),
     }
 }
 
@@ -273,7 +277,7 @@ fn print_as(
         Examined::Accepted(contents) => {
             let text = text_of(alloc, output, body, kind, &contents);
             drop(contents);
-            Ok(text?)
+            text
         }
         Examined::Refused(text, extent) if output == Output::Page => {
             Err(refused_page(alloc, body, kind, text.as_str(), extent)?)
@@ -453,13 +457,24 @@ fn print_spelled(
     }
 }
 
+/// Returns what is printed of an input that isn't to be encoded from its values.
+fn print_input(alloc: Global, options: &Options<'_>, input: &[u8]) -> Result<String, InspectFault>
+    ensures { IfOk result (λ text. PrintsInForm (form_in options.now.form options.now.kind input.now)
+        options.now.output options.now.kind input.now (string_bytes text)) }
+{
+    match form_in(alloc, options, input)? {
+        Form::Json => print_record(alloc, options, input),
+        form => print_spelled(alloc, options, form, input),
+    }
+}
+
 /// Returns what is printed of the input. Returns the fault if it spells no bytes in the form that
 /// was named, or is refused; then the fault says why.
 pub fn inspect(alloc: Global, options: &Options<'_>, input: &[u8]) -> Result<String, InspectFault>
     ensures { IfOk result (λ text. PrintsInput options.now input.now (string_bytes text)) }
 {
-    match form_in(alloc, options, input)? {
-        Form::Json => print_record(alloc, options, input),
-        form => print_spelled(alloc, options, form, input),
+    match options.output {
+        Output::FromValues => encode_text(alloc, options.kind, input),
+        _ => print_input(alloc, options, input),
     }
 }

@@ -18,6 +18,7 @@ mod refusal;
 mod status_name;
 mod structure;
 mod undecoded;
+mod values;
 
 use fault::InspectFault;
 use kinds::all_kinds_text;

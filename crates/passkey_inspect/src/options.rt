@@ -16,13 +16,16 @@ xxd and hexdump -C dump it), base64, base64url, JSON and raw bytes.
   --hex         the bytes head by head, explained       passkey_inspect --hex FILE
   --cbor        encoded again, in hexadecimal           passkey_inspect --cbor info FILE
   --html        a page: members beside their bytes      passkey_inspect --html FILE >page.html
-  --lines       one input a line, one answer a line: JSON, or what --cbor prints
+  --values      exact JSON, which --encode takes        passkey_inspect --values info FILE
+  --encode      such JSON encoded, in hexadecimal       passkey_inspect --encode info FILE
+  --lines       one input a line, one answer a line; with one of --json, --cbor, --values, --encode
   --from FORM   hex, base64, raw or json                passkey_inspect --from raw auth FILE
   --kinds       the kinds: name, number in C, form and standard, tabs between
   -h, --help    this text
   --version     the version
 
-Of JSON a report is printed, or with --json the record in a line; the others are for bytes.
+Of JSON a report is printed, or with --json the record in a line; the others are for bytes, but
+--encode, which takes JSON alone.
 
 Without a KIND it is found, and a leading command byte or status byte 00 is taken off. A KIND that
 is named takes all of the bytes; auth is authenticator data, cbor any data item, and mc-response
@@ -67,9 +70,22 @@ pub enum Output {
     Encoding,
     /// A page of HTML.
     Page,
+    /// The message as JSON, from which it is read back.
+    Values,
+    /// The encoding of a message that such JSON is, in hexadecimal.
+    FromValues,
 }
 
 impl Output {
+    /// Returns whether it is printed in one line.
+    fn has_a_line(self) -> bool {
+        match self {
+            Output::Json | Output::Encoding | Output::Values | Output::FromValues => true,
+            Output::Report | Output::Diagnosis | Output::Bytes | Output::Dump | Output::Page =>
+                false,
+        }
+    }
+
     /// Returns the option that asks for it; of a report, which none asks for, no text.
     pub fn option(self) -> &'static str {
         match self {
@@ -80,6 +96,8 @@ impl Output {
             Output::Dump => "--hex",
             Output::Encoding => "--cbor",
             Output::Page => "--html",
+            Output::Values => "--values",
+            Output::FromValues => "--encode",
         }
     }
 }
@@ -126,6 +144,8 @@ fn set_option(options: &mut Options<'_>, word: &str) -> bool {
         "--hex" => options.output = Output::Dump,
         "--cbor" => options.output = Output::Encoding,
         "--html" => options.output = Output::Page,
+        "--values" => options.output = Output::Values,
+        "--encode" => options.output = Output::FromValues,
         "--lines" => options.lines = true,
         "-h" | "--help" => options.help = true,
         "--version" => options.version = true,
@@ -161,7 +181,7 @@ fn set_lines(options: &mut Options<'_>) -> bool {
     if options.lines && options.output == Output::Report {
         options.output = Output::Json;
     }
-    !options.lines || options.output == Output::Json || options.output == Output::Encoding
+    !options.lines || options.output.has_a_line()
 }
 
 /// Returns the options, or `None` if an argument is none, or is one too many. `-h`, and a word that

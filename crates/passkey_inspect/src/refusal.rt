@@ -185,6 +185,24 @@ fn missing_name<M: FromCbor>(
     }
 }
 
+/// Returns the line with the name of the member that is missing, if one is.
+fn with_missing_name<M: FromCbor>(
+    alloc: Global,
+    mut line: String,
+    blame: &Blame,
+) -> Result<String, OutOfMemory> {
+    if let Some(name) = missing_name::<M>(alloc, blame)? {
+        line.push_str(": ")?;
+        line.push_str(name)?;
+    }
+    Ok(line)
+}
+
+/// Returns a line about what in a data item is refused.
+pub fn blame_line<M: FromCbor>(alloc: Global, blame: &Blame) -> Result<String, OutOfMemory> {
+    with_missing_name::<M>(alloc, format!(in alloc; "{blame}")?, blame)
+}
+
 fn item_refused<M: Message>(
     alloc: Global,
     bytes: &[u8],
@@ -197,11 +215,8 @@ fn item_refused<M: Message>(
             return Ok(Examined::Refused(text, Some(data_extent(&refusal))));
         }
     }
-    let mut text = format!(in alloc; "{fault}\n{item}")?;
-    if let Some(name) = missing_name::<M>(alloc, &item.blame)? {
-        text.push_str(": ")?;
-        text.push_str(name)?;
-    }
+    let text = format!(in alloc; "{fault}\n{item}")?;
+    let text = with_missing_name::<M>(alloc, text, &item.blame)?;
     Ok(Examined::Refused(text, Some(item.extent)))
 }
 
