@@ -15,8 +15,9 @@ pub enum InspectFault {
     /// The kind refuses the message. The text has the kind and the fault in a line, and in another
     /// which item, and what is wanted there, where a table tells it; status 1.
     Refused(String),
-    /// The same, with a page of HTML that shows it, for standard output; status 1.
-    RefusedPage(String, String),
+    /// The same, with what is printed all the same on standard output: a page of HTML that shows it, or
+    /// what was asked for of bytes that aren't in canonical form; status 1.
+    RefusedPrinted(String, String),
     /// So many lines were refused; status 1.
     RefusedLines(u64),
     /// The input isn't base64; status 1.
@@ -49,8 +50,8 @@ impl InspectFault {
     pub fn with_line(self, line: &str) -> Result<InspectFault, OutOfMemory> {
         match self {
             InspectFault::Refused(text) => Ok(InspectFault::Refused(with_line(text, line)?)),
-            InspectFault::RefusedPage(text, page) => {
-                Ok(InspectFault::RefusedPage(with_line(text, line)?, page))
+            InspectFault::RefusedPrinted(text, printed) => {
+                Ok(InspectFault::RefusedPrinted(with_line(text, line)?, printed))
             }
             fault => Ok(fault),
         }
@@ -59,7 +60,7 @@ impl InspectFault {
     /// Returns what goes to standard output all the same.
     pub fn output(&self) -> &str {
         match self {
-            InspectFault::RefusedPage(_, page) => page.as_str(),
+            InspectFault::RefusedPrinted(_, printed) => printed.as_str(),
             _ => "",
         }
     }
@@ -69,7 +70,7 @@ impl InspectFault {
         match self {
             InspectFault::Run(fault) => fault.status(),
             InspectFault::Refused(_)
-            | InspectFault::RefusedPage(_, _)
+            | InspectFault::RefusedPrinted(_, _)
             | InspectFault::RefusedLines(_)
             | InspectFault::BadBase64 => 1,
             InspectFault::BadArguments
@@ -86,7 +87,7 @@ impl fmt::Display for InspectFault {
         match self {
             InspectFault::Run(fault) => write!(f, "{fault}"),
             InspectFault::Refused(text)
-            | InspectFault::RefusedPage(text, _)
+            | InspectFault::RefusedPrinted(text, _)
             | InspectFault::NoKind(text)
             | InspectFault::NoFile(text) => f.write_str(text.as_str()),
             InspectFault::RefusedLines(count) => write!(f, "lines refused: {count}"),

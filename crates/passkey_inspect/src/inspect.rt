@@ -1,5 +1,6 @@
 //! One run: reads bytes, and returns what is printed.
-ghost use Rattle.std.specs.Prelude.{◌≡◌, ◌++◌, ◌∷◌, [], IfOk, None, string_bytes};
+ghost use Rattle.std.specs.Prelude.{◌≡◌, ◌++◌, ◌∷◌, [], IfOk, IsTrue, None, OnOk, string_bytes};
+ghost use Rattle.passkey_malformed.specs.Breaks.{IsCanonicalWithin};
 ghost use Rattle.passkey_inspect.specs.Prints.{Prints, PrintsAs, PrintsBytes, PrintsInForm, PrintsInput, PrintsSpelled, form_in, ShowsBytes};
 ghost use Rattle.passkey_inspect.specs.Prints.{ShowsEncoding, ShowsItem, ShowsJson};
 
@@ -18,6 +19,7 @@ use passkey_cbor_text::diagnose::{diagnose_bytes_indented, diagnose_indented};
 use passkey_cbor_text::dump::dump;
 use passkey_explain::{Description, Extent, FieldName};
 use passkey_inspect_input::{Form, bytes_as, form_of};
+use passkey_malformed::{CTAP2_DEPTH, not_canonical};
 use passkey_memory::OutOfMemory;
 use passkey_render::{json_of, page_of, refusal_page, report_of};
 use passkey_rewrite::RunFault;
@@ -141,6 +143,8 @@ struct Body<'a> {
     len: usize,
     frame: Frame,
     bytes: &'a [u8],
+    /// Whether a data item has to be in CTAP2's canonical form.
+    strict: bool,
 }
 
 /// Returns the lines before a report: the input's form and length, and the byte before the message.
@@ -261,7 +265,32 @@ fn refused_page(
     let end = offset.saturating_add(len);
     let page = refusal_page(alloc, title.as_str(), text, body.bytes, offset, end)?;
     let told = format!(in alloc; "{name} refuses it: {text}")?;
-    Ok(InspectFault::RefusedPage(told, page))
+    Ok(InspectFault::RefusedPrinted(told, page))
+}
+
+/// Returns what is printed of a message that the kind accepts; as a fault if the message has to be in
+/// CTAP2's canonical form, and isn't.
+fn canonical_only(
+    alloc: Global,
+    is_strict: bool,
+    kind: InspectKind,
+    bytes: &[u8],
+    text: String,
+) -> Result<String, InspectFault>
+    ensures text { IfOk result (λ printed. printed ≡ text) }
+    ensures canonical { OnOk result (IsTrue is_strict → IsCanonicalWithin 4 bytes.now) }
+{
+    if !is_strict {
+        return Ok(text);
+    }
+    match not_canonical(bytes, CTAP2_DEPTH) {
+        None => Ok(text),
+        Some(found) => {
+            let name = name_of(kind);
+            let told = format!(in alloc; "{name} isn't in CTAP2's canonical form: {found}")?;
+            Err(InspectFault::RefusedPrinted(told, text))
+        }
+    }
 }
 
 /// Returns what is printed of a message of which the kind is known.
@@ -277,7 +306,8 @@ fn print_as(
         Examined::Accepted(contents) => {
             let text = text_of(alloc, output, body, kind, &contents);
             drop(contents);
-            text
+            let is_strict = body.strict && is_data_item(kind);
+            canonical_only(alloc, is_strict, kind, body.bytes, text?)
         }
         Examined::Refused(text, extent) if output == Output::Page => {
             Err(refused_page(alloc, body, kind, text.as_str(), extent)?)
@@ -339,7 +369,11 @@ fn print_best(
         return print_unknown(alloc, output, body, CBOR);
     };
     match output {
-        Output::Report => Ok(report_found(alloc, body, matches, *kind, contents)?),
+        Output::Report => {
+            let text = report_found(alloc, body, matches, *kind, contents)?;
+            let is_strict = body.strict && is_data_item(*kind);
+            canonical_only(alloc, is_strict, *kind, body.bytes, text)
+        }
         _ => print_as(alloc, output, body, *kind),
     }
 }
@@ -381,11 +415,11 @@ fn with_form(
 /// Returns what is printed of bytes whose kind wasn't named: of the message in them.
 fn print_framed(
     alloc: Global,
-    output: Output,
+    options: &Options<'_>,
     form: Form,
     bytes: &[u8],
 ) -> Result<String, InspectFault>
-    ensures { IfOk result (λ text. PrintsBytes output None bytes.now (string_bytes text)) }
+    ensures { IfOk result (λ text. PrintsBytes options.now.output None bytes.now (string_bytes text)) }
 {
     let (frame, message) = frame_of(bytes);
     let body = Body {
@@ -393,10 +427,11 @@ fn print_framed(
         len: bytes.len(),
         frame,
         bytes: message,
+        strict: options.strict,
     };
     match framed_kind(frame) {
-        Some(kind) => print_as(alloc, output, &body, kind),
-        None => print_found(alloc, output, &body),
+        Some(kind) => print_as(alloc, options.output, &body, kind),
+        None => print_found(alloc, options.output, &body),
     }
 }
 
@@ -412,13 +447,14 @@ fn print_bytes(
         (λ text. PrintsBytes options.now.output options.now.kind bytes.now (string_bytes text)) }
 {
     let Some(kind) = options.kind else {
-        return print_framed(alloc, options.output, form, bytes);
+        return print_framed(alloc, options, form, bytes);
     };
     let body = Body {
         form,
         len: bytes.len(),
         frame: Frame::None,
         bytes,
+        strict: options.strict,
     };
     print_as(alloc, options.output, &body, kind)
 }

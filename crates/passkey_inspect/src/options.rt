@@ -18,6 +18,7 @@ xxd and hexdump -C dump it), base64, base64url, JSON and raw bytes.
   --html        a page: members beside their bytes      passkey_inspect --html FILE >page.html
   --values      exact JSON, which --encode takes        passkey_inspect --values info FILE
   --encode      such JSON encoded, in hexadecimal       passkey_inspect --encode info FILE
+  --strict      refuse what isn't canonical CBOR        passkey_inspect --strict info FILE
   --lines       one input a line, one answer a line; with one of --json, --cbor, --values, --encode
   --from FORM   hex, base64, raw or json                passkey_inspect --from raw auth FILE
   --kinds       the kinds: name, number in C, form and standard, tabs between
@@ -117,6 +118,8 @@ pub struct Options<'a> {
     pub form: Option<Form>,
     /// Whether each line is an input, which is answered in a line.
     pub lines: bool,
+    /// Whether a data item has to be in CTAP2's canonical form.
+    pub strict: bool,
     /// Whether help is printed instead.
     pub help: bool,
     /// Whether the version is printed instead.
@@ -147,6 +150,7 @@ fn set_option(options: &mut Options<'_>, word: &str) -> bool {
         "--values" => options.output = Output::Values,
         "--encode" => options.output = Output::FromValues,
         "--lines" => options.lines = true,
+        "--strict" => options.strict = true,
         "-h" | "--help" => options.help = true,
         "--version" => options.version = true,
         "--kinds" => options.kinds = true,
@@ -196,6 +200,7 @@ pub fn options_of(words: &[String]) -> Option<Options<'_>> {
         output: Output::Report,
         form: None,
         lines: false,
+        strict: false,
         help: false,
         version: false,
         kinds: false,
