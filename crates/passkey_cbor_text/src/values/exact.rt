@@ -73,11 +73,7 @@ fn is_json_of(
 /// Returns the data item as a JSON text that `item_from_json` makes the same item of: byte strings, big
 /// numbers, keys that are no text, tags, floats, and the order and the repetition of members are all kept,
 /// in escapes where JSON has nothing for them. Returns `OutOfMemory` if an allocation fails.
-pub fn json_from_item(
-    alloc: Global,
-    form: StringForm,
-    value: &Value,
-) -> Result<String, OutOfMemory>
+pub fn json_from_item(alloc: Global, form: StringForm, value: &Value) -> Result<String, OutOfMemory>
     requires { depth (item_of value.now) ≤ max_depth }
     ensures { IfOk result (λ text. IsJsonOf (leaf_item form) (item_of value.now) (string_bytes text)) }
 {
