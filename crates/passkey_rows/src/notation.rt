@@ -1,7 +1,11 @@
-//! Diagnostic notation (RFC 8949, section 8), and where bytes aren't well-formed (section 3).
-use crate::hexadecimal::{decode, item_of};
+//! Diagnostic notation (RFC 8949, section 8), where bytes aren't well-formed (section 3), and CTAP2's
+//! canonical form (CTAP 2.2, section 8).
+use crate::hexadecimal::{decode, encode, item_of};
 use passkey_rewrite::RunFault;
-use passkey_types::ctap2::explain::{Malformed, malformed};
+use passkey_types::ctap2::explain::{
+    CTAP2_DEPTH, Malformed, NotCanonical, malformed, not_canonical,
+};
+use passkey_types::ctap2::registered::canonical_vec;
 use passkey_types::diagnose::{
     diagnose, diagnose_bytes, diagnose_bytes_indented, diagnose_indented,
 };
@@ -54,6 +58,24 @@ fn ill_formed(alloc: Global, input: &str) -> Result<String, RunFault> {
     Ok(format!(in alloc; "{offset} {why:?}")?)
 }
 
+/// `BYTES`: the offset at which they aren't in CTAP2's canonical form, and the rule that they break there;
+/// `none` if they are.
+fn breach(alloc: Global, input: &str) -> Result<String, RunFault> {
+    let bytes = decode(alloc, input)?;
+    let Some(NotCanonical { offset, rule }) = not_canonical(&bytes, CTAP2_DEPTH) else {
+        return Ok(String::from_str(alloc, "none")?);
+    };
+    Ok(format!(in alloc; "{offset} {rule:?}")?)
+}
+
+/// `BYTES`: the leading data item, encoded in CTAP2's canonical form.
+fn in_order(alloc: Global, input: &str) -> Result<String, RunFault> {
+    let value = item_of(alloc, input)?;
+    let encoding = canonical_vec(alloc, &value);
+    drop(value);
+    encode(alloc, &encoding?)
+}
+
 /// Returns the output of a row of such a kind. Returns `None` if it isn't a row of such a kind.
 pub fn notation_row(alloc: Global, name: &str, input: &str) -> Option<Result<String, RunFault>> {
     match name {
@@ -62,6 +84,8 @@ pub fn notation_row(alloc: Global, name: &str, input: &str) -> Option<Result<Str
         "diag-bytes" => Some(encodings(alloc, false, input)),
         "diag-bytes-lines" => Some(encodings(alloc, true, input)),
         "malformed" => Some(ill_formed(alloc, input)),
+        "not-canonical" => Some(breach(alloc, input)),
+        "canonical" => Some(in_order(alloc, input)),
         _ => None,
     }
 }
