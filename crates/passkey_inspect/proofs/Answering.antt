@@ -3,8 +3,7 @@ use Rattle.std.proofs.Common.{◌≡◌, ◌∙◌, ◌++◌, ℕ, List, [], ◌
 use Rattle.std.proofs.Common.{refl, ap, sym, subst, append-nil, append_assoc}
 use Rattle.std.specs.Io.KnownBytes.{Appends, Consumes, IsAtEnd}
 use Rattle.std.proofs.KnownBytes.{Appends-trans, Consumes-trans}
-use Rattle.passkey_inspect.specs.LineByLine.{Answered, AnswersLast, AppendsAnswers, AppendsLast}
-use Rattle.passkey_inspect.specs.LineByLine.{WritesAnswers}
+use Rattle.passkey_inspect.specs.LineByLine.{Answered, AnswersLast, AppendsAnswers, AppendsLast, WritesAnswers}
 use Rattle.passkey_inspect.specs.declared.options.Options.{Options}
 
 -- what answers these bytes and, from what they leave, those after them, answers both
@@ -26,7 +25,8 @@ answered_both o (byte ∷ rest) second began middle left text more (inr (other, 
     inr (other, answered_both o rest second (began ++ byte ∷ []) middle left text more a b)
 
 pub answers_more : (o : Options) (first second began middle left before now after : List ℕ)
-    → AppendsAnswers o first began middle before now → AppendsAnswers o second middle left now after → AppendsAnswers o (first ++ second) began left before after
+    → AppendsAnswers o first began middle before now → AppendsAnswers o second middle left now after
+    → AppendsAnswers o (first ++ second) began left before after
 answers_more o first second began middle left before now after a b = record {
   text = a.text ++ b.text;
   answered = answered_both o first second began middle left a.text b.text a.answered b.answered;

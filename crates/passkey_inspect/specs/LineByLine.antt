@@ -23,8 +23,8 @@ pub record AppendsAnswer (o : Options) (input before after : List ℕ) : Type 0 
   pub answers : Answers o input line
   pub appended : after ≡ before ++ line
 
--- The text answers the lines that end in these bytes. What is pending of the first was read before them; what is left is of a line that
--- hasn't ended.
+-- The text answers the lines that end in these bytes. What is pending of the first was read before them; what is left is of a
+-- line that hasn't ended.
 abbrev pub Answered : Options → List ℕ → List ℕ → List ℕ → List ℕ → Type 0
 Answered o [] pending left text = (left ≡ pending) × (text ≡ [])
 Answered o (byte ∷ rest) pending left text =

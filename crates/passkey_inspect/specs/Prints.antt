@@ -17,7 +17,8 @@ use Rattle.passkey_rewrite.specs.RewritesJson.{RewritesJson}
 use Rattle.passkey_inspect.specs.Frame.{body_in, kind_in}
 use Rattle.passkey_inspect.specs.declared.options.Options.{Options}
 use Rattle.passkey_inspect.specs.declared.options.Output.{Output}
-use Rattle.passkey_inspect.specs.declared.options.Output.TheVariants.{Report, Json as JsonText, Diagnosis, Bytes as BytesText, Encoding, FromValues, Values}
+use Rattle.passkey_inspect.specs.declared.options.Output.TheVariants.{Report, Json as JsonText, Diagnosis, Bytes as BytesText}
+use Rattle.passkey_inspect.specs.declared.options.Output.TheVariants.{Encoding, FromValues, Values}
 use Rattle.passkey_catalogue.specs.Catalogue.{definition, is_json, json_of}
 use Rattle.passkey_catalogue.specs.Rewriting.{Encodes}
 use Rattle.passkey_catalogue.specs.Values.{EncodesValues, ShowsValues}

@@ -1,8 +1,8 @@
 //! One run: reads bytes, and returns what is printed.
 ghost use Rattle.std.specs.Prelude.{◌≡◌, ◌++◌, ◌∷◌, [], IfOk, IsTrue, None, OnOk, string_bytes};
 ghost use Rattle.passkey_malformed.specs.Breaks.{IsCanonicalWithin};
-ghost use Rattle.passkey_inspect.specs.Prints.{Prints, PrintsAs, PrintsBytes, PrintsInForm, PrintsInput, PrintsSpelled, form_in, ShowsBytes};
-ghost use Rattle.passkey_inspect.specs.Prints.{ShowsEncoding, ShowsItem, ShowsJson};
+ghost use Rattle.passkey_inspect.specs.Prints.{Prints, PrintsAs, PrintsBytes, PrintsInForm, PrintsInput, PrintsSpelled, form_in};
+ghost use Rattle.passkey_inspect.specs.Prints.{ShowsBytes, ShowsEncoding, ShowsItem, ShowsJson};
 
 use crate::examine::{Contents, Examined, examine};
 use crate::fault::InspectFault;
