@@ -2,7 +2,8 @@
 ghost use Rattle.std.specs.Prelude.{◌≡◌, true, IfOk, IfErr, Ok, is_ok, string_bytes};
 ghost use Rattle.json.specs.Value.{value_view};
 ghost use Rattle.passkey_catalogue.specs.Catalogue.{definition};
-ghost use Rattle.passkey_catalogue.specs.Values.{EncodesValues, IsNoItem, ReadsValues, RefusesEncoding, RefusesJson, RefusesText, RefusesValues, ShowsValues, has_values, json_fault, value_item};
+ghost use Rattle.passkey_catalogue.specs.Values.{EncodesValues, IsNoItem, ReadsValues, RefusesEncoding, RefusesJson};
+ghost use Rattle.passkey_catalogue.specs.Values.{RefusesText, RefusesValues, ShowsValues, has_values, json_fault, value_item};
 ghost use Rattle.passkey_catalogue.specs.declared.json_values.ValuesFault.TheVariants.{Run as Ran};
 ghost use Rattle.passkey_cbor.specs.LeadingItem.{IsLeadingItem};
 ghost use Rattle.passkey_cbor.specs.View.{item_of};

@@ -13,7 +13,8 @@ ghost use Rattle.passkey_kinds.specs.Record.{names, naming_of};
 ghost use Rattle.passkey_kinds.specs.RecordReading.{entry_of};
 ghost use Rattle.passkey_kinds.specs.Shape.{Tested, reached};
 ghost use Rattle.passkey_kinds.specs.declared.look.Form.TheVariants.{List as a_list};
-ghost use Rattle.passkey_render.specs.Typed.{HasKeys, IsTableAt, Keys as SpecKeys, json_item, keys_of, member_item, named_by, named_in, named_key, plain_key, read_each, string_form, value_item};
+ghost use Rattle.passkey_render.specs.Typed.{HasKeys, IsTableAt, Keys as SpecKeys, json_item, keys_of, member_item, named_by, named_in};
+ghost use Rattle.passkey_render.specs.Typed.{named_key, plain_key, read_each, string_form, value_item};
 
 use json::Value as Json;
 use passkey_cbor::{Integer, Value};
