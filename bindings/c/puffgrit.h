@@ -125,6 +125,18 @@ typedef unsigned char puffgrit_bool; /* 0 or 1 */
 #define PUFFGRIT_STATUS_OF(returned) ((returned) & 255u)
 #define PUFFGRIT_MEMBER_OF(returned) ((returned) >> 8)
 
+/* The rules of CTAP2's canonical form (CTAP 2.2, section 8), for puffgrit_not_canonical. */
+#define PUFFGRIT_CANONICAL 0u
+#define PUFFGRIT_RULE_WELL_FORMED 1u
+#define PUFFGRIT_RULE_SHORTEST_HEAD 2u
+#define PUFFGRIT_RULE_DEFINITE_LENGTH 3u
+#define PUFFGRIT_RULE_NO_TAG 4u
+#define PUFFGRIT_RULE_NO_UNDEFINED 5u
+#define PUFFGRIT_RULE_ASCENDING_KEYS 6u
+#define PUFFGRIT_RULE_DISTINCT_KEYS 7u
+#define PUFFGRIT_RULE_LEVELS 8u
+#define PUFFGRIT_RULE_NOTHING_AFTER 9u
+
 /* Which bytes of an input are refused. */
 typedef struct {
     /* The offset of the first byte: of a data item, a map key or a part that is refused, or of where the bytes aren't
@@ -211,6 +223,41 @@ uint32_t puffgrit_json(uint32_t kind, const uint8_t *input, size_t input_len, si
    nothing is written. (CTAP 2.1, section 6; RFC 8949, section 3; WebAuthn Level 3, sections 5, 6.1 and 8.) */
 uint32_t puffgrit_explain(uint32_t kind, const uint8_t *input, size_t input_len, size_t *read, puffgrit_refusal *refusal, uint8_t *out, size_t out_len, size_t *len);
 
+/* Appends the head of a map of so many members, each of which is to be appended next, its key before its value, in
+   CTAP2's order (major type 5). len is the length of what stands in out so far, 0 at first, and grows by what is
+   appended. Returns true then. If there is no room for all of it, returns false, leaves out as it was, and sets len to
+   SIZE_MAX, with which each later call returns false, too: so it is enough to look at what puffgrit_write_end returns.
+   Never writes beyond out, or what stands in it already. (RFC 8949, section 3.1; CTAP 2.1, section 8.) */
+puffgrit_bool puffgrit_write_map(uint8_t *out, size_t out_len, size_t *len, uint64_t members);
+
+/* Appends the head of an array of so many elements, which are to be appended next (major type 4), as puffgrit_write_map
+   does. */
+puffgrit_bool puffgrit_write_array(uint8_t *out, size_t out_len, size_t *len, uint64_t elements);
+
+/* Appends an integer (major types 0 and 1), as puffgrit_write_map does. */
+puffgrit_bool puffgrit_write_int(uint8_t *out, size_t out_len, size_t *len, int64_t value);
+
+/* Appends a byte string (major type 2), as puffgrit_write_map does. */
+puffgrit_bool puffgrit_write_bytes(uint8_t *out, size_t out_len, size_t *len, const uint8_t *bytes, size_t bytes_len);
+
+/* Appends a text string (major type 3), as puffgrit_write_map does. Fails, too, if the bytes aren't UTF-8. */
+puffgrit_bool puffgrit_write_text(uint8_t *out, size_t out_len, size_t *len, const uint8_t *text, size_t text_len);
+
+/* Appends false or true (major type 7), as puffgrit_write_map does. */
+puffgrit_bool puffgrit_write_bool(uint8_t *out, size_t out_len, size_t *len, puffgrit_bool value);
+
+/* Appends null (major type 7), as puffgrit_write_map does. */
+puffgrit_bool puffgrit_write_null(uint8_t *out, size_t out_len, size_t *len);
+
+/* Appends a data item that is encoded, such as a COSE key, as puffgrit_write_map does. Fails, too, if the bytes aren't
+   exactly one data item of at most 256 levels in CTAP2's canonical form. */
+puffgrit_bool puffgrit_write_item(uint8_t *out, size_t out_len, size_t *len, const uint8_t *item, size_t item_len);
+
+/* Returns whether the calls before have all returned true, and what stands in out is exactly one data item of at most
+   256 levels in CTAP2's canonical form: each array and map has its elements and members, and the keys of each map
+   ascend. (CTAP 2.1, section 8.) */
+puffgrit_bool puffgrit_write_end(const uint8_t *out, size_t out_len, size_t len);
+
 /* Returns the length in bytes of the data item at the beginning of the bytes, or 0 if they don't begin with a
    well-formed item of at most 256 levels. An item has at least one byte. (RFC 8949, section 3.) */
 size_t puffgrit_item_len(const uint8_t *bytes, size_t bytes_len);
@@ -239,6 +286,13 @@ puffgrit_bool puffgrit_named(const uint8_t *bytes, size_t bytes_len, size_t map,
    which don't write it, pass too. JSON isn't parsed. Returns false if a string isn't UTF-8. (WebAuthn Level 3, section
    5.8.1.2.) */
 puffgrit_bool puffgrit_is_client_data(const uint8_t *bytes, size_t bytes_len, const uint8_t *ty, size_t ty_len, const uint8_t *challenge, size_t challenge_len, const uint8_t *origin, size_t origin_len, const uint8_t *top_origin, size_t top_origin_len, puffgrit_bool requires_top_origin);
+
+/* Returns PUFFGRIT_CANONICAL, which is 0, if the bytes are exactly one data item in CTAP2's canonical form, with arrays
+   and maps inside one another at no more than so many levels (4 in messages), and at most 256. Else writes the offset of
+   the first head that breaks a rule to offset, and returns the rule, from PUFFGRIT_RULE_WELL_FORMED on; of a key that
+   isn't in its place the offset is the key's, and of trailing bytes that of the first. Leaves offset as it was if the
+   bytes are canonical. (CTAP 2.2, section 8.) */
+uint32_t puffgrit_not_canonical(const uint8_t *bytes, size_t bytes_len, size_t levels, size_t *offset);
 
 /* Writes the parts of the authenticator data at the beginning of the bytes into parts and returns true. Returns false,
    and leaves parts as it was, if a part that the flags announce is cut off, or isn't a well-formed map of at most 256

@@ -1,3 +1,5 @@
 pub mod AuthData
+pub mod Canonical
 pub mod ClientData
 pub mod Items
+pub mod Writer
