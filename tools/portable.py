@@ -153,8 +153,8 @@ def argument(name, kind, written):
 
 
 def wrapper(header, layouts, signature):
-    """A call of puffgrit.h: it calls the module's function, and copies what this wrote. If the call returns whether there is something,
-    it is copied then; else all is copied both ways, since what isn't written stays as it was."""
+    """A call of puffgrit.h: it calls the module's function, and copies what this wrote. If the call returns whether there is something that it
+    writes into a struct, it is copied then; else all is copied both ways, since what isn't written stays as it was."""
     name, parameters, result = signature
     written = list(outputs(layouts, parameters))
     call = f"code_{name}({', '.join(argument(*it, written) for it in parameters)})"
@@ -165,11 +165,12 @@ def wrapper(header, layouts, signature):
     read = [f"{it} = {'(size_t)' * (kind == 'usize')}ld{8 * SIZES[kind]}({place(at)});" for _, it, kind, at in written]
     size = -(-(written[-1][3] + SIZES[written[-1][2]]) // 16) * 16
     lines += [f"    FRAME(frame, {size});", "    const uint64_t at = FRAME_AT(frame);"]
-    if result == "bool":
+    if result == "bool" and all(kind[5:] in layouts for _, kind in parameters if is_output(kind)):
         lines += [f"    if (({call} & 1) == 0) return 0;", *(f"    {it}" for it in read), "    return 1;", "}"]
         return "\n".join(lines)
     lines += [f"    {header.TYPES[result]} result;", *(f"    st{8 * SIZES[kind]}({place(at)}, {it});" for _, it, kind, at in written)]
-    return "\n".join([*lines, f"    result = {call};", *(f"    {it}" for it in read), "    return result;", "}"])
+    result = f"({call} & 1)" if result == "bool" else call
+    return "\n".join([*lines, f"    result = {result};", *(f"    {it}" for it in read), "    return result;", "}"])
 
 
 def write(part, bitcodes, toolchain, header):

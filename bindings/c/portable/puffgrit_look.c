@@ -94,6 +94,15 @@ static inline void st64(uint64_t at, uint64_t number) {
 #endif
 }
 
+static inline void copy(uint64_t to, uint64_t from, uint64_t length) {
+    uint64_t k;
+    if (to <= from) {
+        for (k = 0; k < length; k++) *AT(to + k) = *AT(from + k);
+    } else {
+        for (k = length; k > 0; k--) *AT(to + k - 1) = *AT(from + k - 1);
+    }
+}
+
 static inline void fill(uint64_t to, uint32_t byte, uint64_t length) {
     for (; length > 0; length--) *AT(to + length - 1) = (uint8_t)byte;
 }
@@ -151,21 +160,35 @@ static void canonical_after_item_20(uint64_t, uint64_t, uint64_t, uint64_t);
 static void canonical_after_string_21(uint64_t, uint32_t, uint64_t, uint64_t, uint64_t);
 static void canonical_after_items_22(uint64_t, uint64_t, uint64_t, uint64_t, uint64_t);
 static void canonical_after_pairs_23(uint64_t, uint64_t, uint64_t, uint64_t, uint64_t);
-static void client_data_after_string_24(uint64_t, uint64_t, uint64_t, uint64_t, uint64_t);
-static void client_data_after_25(uint64_t, uint64_t, uint64_t, uint64_t, uint64_t);
-static uint32_t scan_any_in_ends_26(uint64_t, uint64_t, uint64_t);
-static uint32_t scan_any_in_quarters_27(uint64_t, uint64_t, uint64_t);
-static uint32_t item_fill_28(uint64_t, uint64_t);
-static uint32_t Cursor_more_29(uint64_t, uint64_t);
-static void Cursor_other_text_30(uint64_t, uint64_t);
-static void Cursor_other_string_31(uint64_t, uint64_t);
-static uint32_t names_place_of_32(uint64_t, uint64_t, uint64_t);
-static uint32_t slices_groups_equal_33(uint64_t, uint64_t, uint64_t, uint64_t);
-static void names_following_34(uint64_t, uint64_t, uint64_t, uint64_t, uint64_t);
+static uint32_t order_ctap2_order_24(uint64_t, uint64_t, uint64_t, uint64_t);
+static void client_data_after_string_25(uint64_t, uint64_t, uint64_t, uint64_t, uint64_t);
+static void client_data_after_26(uint64_t, uint64_t, uint64_t, uint64_t, uint64_t);
+static uint32_t scan_any_in_ends_27(uint64_t, uint64_t, uint64_t);
+static uint32_t scan_any_in_quarters_28(uint64_t, uint64_t, uint64_t);
+static uint32_t writer_put_head_29(uint64_t, uint64_t, uint64_t, uint32_t, uint64_t, uint64_t, uint64_t);
+static uint32_t writer_put_item_30(uint64_t, uint64_t, uint64_t, uint32_t, uint64_t, uint64_t, uint64_t, uint64_t);
+static void canonical_after_item_31(uint64_t, uint64_t, uint64_t, uint64_t);
+static uint32_t item_fill_32(uint64_t, uint64_t);
+static uint32_t Cursor_more_33(uint64_t, uint64_t);
+static void Cursor_other_text_34(uint64_t, uint64_t);
+static void Cursor_other_string_35(uint64_t, uint64_t);
+static uint32_t names_place_of_36(uint64_t, uint64_t, uint64_t);
+static uint32_t slices_groups_equal_37(uint64_t, uint64_t, uint64_t, uint64_t);
+static void names_following_38(uint64_t, uint64_t, uint64_t, uint64_t, uint64_t);
 static uint32_t code_puffgrit_auth_parts(uint64_t, uint64_t, uint64_t);
 static uint32_t code_puffgrit_is_canonical(uint64_t, uint64_t);
 static uint32_t code_puffgrit_is_client_data(uint64_t, uint64_t, uint64_t, uint64_t, uint64_t, uint64_t, uint64_t, uint64_t, uint64_t, uint64_t, uint32_t);
 static uint64_t code_puffgrit_item_len(uint64_t, uint64_t);
+static uint32_t code_puffgrit_write_end(uint64_t, uint64_t, uint64_t);
+static uint32_t code_puffgrit_write_bool(uint64_t, uint64_t, uint64_t, uint32_t);
+static uint32_t code_puffgrit_write_item(uint64_t, uint64_t, uint64_t, uint64_t, uint64_t);
+static uint32_t code_puffgrit_write_null(uint64_t, uint64_t, uint64_t);
+static uint32_t code_puffgrit_write_array(uint64_t, uint64_t, uint64_t, uint64_t);
+static uint32_t code_puffgrit_write_bytes(uint64_t, uint64_t, uint64_t, uint64_t, uint64_t);
+static uint32_t code_puffgrit_write_int(uint64_t, uint64_t, uint64_t, uint64_t);
+static uint32_t code_puffgrit_write_map(uint64_t, uint64_t, uint64_t, uint64_t);
+static uint32_t code_puffgrit_write_text(uint64_t, uint64_t, uint64_t, uint64_t, uint64_t);
+static uint32_t code_puffgrit_not_canonical(uint64_t, uint64_t, uint64_t, uint64_t);
 static uint32_t code_puffgrit_item_at(uint64_t, uint64_t, uint64_t, uint64_t);
 static uint32_t code_puffgrit_member(uint64_t, uint64_t, uint64_t, uint64_t, uint64_t);
 static uint32_t code_puffgrit_named(uint64_t, uint64_t, uint64_t, uint64_t, uint64_t, uint64_t);
@@ -1841,118 +1864,134 @@ static void canonical_after_items_22(uint64_t a0, uint64_t a1, uint64_t a2, uint
 
 static void canonical_after_pairs_23(uint64_t a0, uint64_t a1, uint64_t a2, uint64_t a3, uint64_t a4) {
     FRAME(frame, 32);
-    uint32_t v9 = 0, v13 = 0, v20 = 0, v21 = 0, v22 = 0;
-    uint64_t v5 = 0, v6 = 0, v7 = 0, v8 = 0, v10 = 0, v11 = 0, v12 = 0, v14 = 0, v15 = 0, v16 = 0, v17 = 0, v18 = 0, v19 = 0;
+    uint64_t v5 = 0, v6 = 0, v7 = 0, v8 = 0, v9 = 0;
     v5 = FRAME_AT(frame);
-    v6 = 0ull;
     st64(v5 + 24u, 0ull);
     st64(v5 + 16u, 0ull);
     st64(v5 + 8u, 0ull);
     if (a3 != 0) goto L1;
-    v7 = a1;
+    v6 = a1;
+    v7 = a2;
     goto L2;
   L1:;
-    v8 = 0ull;
-    v9 = 1u;
-  L3:;
     canonical_after_item_20(v5 + 8ull, a1, a2, a4);
+    if (ld8(v5 + 8u) != 1u) goto L3;
+    v6 = ld64(v5 + 24u);
+    canonical_after_item_20(v5 + 8ull, ld64(v5 + 16u), v6, a4);
     if (ld8(v5 + 8u) != 1u) goto L4;
-    v10 = ld64(v5 + 24u);
-    v11 = a2 - v10;
-    v12 = ld64(v5 + 16u);
-    if (v9 & 1u) goto L5;
-    v13 = (uint32_t)(v6 < v11);
-    v14 = 0ull;
-    v15 = (v11 < v6) ? v11 : v6;
-    if (v15 < 64ull) goto L6;
-    v16 = v15 & 0xffffffffffffffc0ull;
-    v14 = 0ull;
-    v17 = v8;
-    v18 = a1;
-  L7:;
-    v9 = 0u;
-    a2 = 0ull;
-  L8:;
-    v7 = v17 + a2;
-    v19 = v18 + a2;
-    v9 = (v9 | (uint32_t)(ld8(v7) != ld8(v19))) | (uint32_t)(ld8(v7 + 1ull) != ld8(v19 + 1ull));
-    a2 = a2 + 2ull;
-    if (a2 != 64ull) goto L8;
-    if (v9 & 1u) goto L6;
-    v17 = v17 + 64ull;
-    v18 = v18 + 64ull;
-    v14 = v14 + 64ull;
-    if ((v15 - v14) > 63ull) goto L7;
-    v14 = v16;
+    v7 = ld64(v5 + 24u);
+    v8 = ld64(v5 + 16u);
+    a3 = a3 - 1ull;
+    if (a3 != 0) goto L5;
+    v6 = v8;
+    goto L2;
+  L5:;
+    a2 = a2 - v6;
   L6:;
-    v9 = v13 ? 0u : 2u;
-    v20 = (uint32_t)(v6 == v11);
-    a2 = v15 - v14;
-    if (a2 < 8ull) goto L9;
-  L10:;
-    if (ld64(v8 + v14) != ld64(a1 + v14)) goto L9;
-    v14 = v14 + 8ull;
-    a2 = a2 - 8ull;
-    if (a2 > 7ull) goto L10;
-  L9:;
-    v21 = v20 ? 1u : v9;
-    if (v15 <= v14) goto L11;
-    a2 = v8 + v14;
-    v7 = a1 + v14;
-    v19 = v15 - v14;
-  L12:;
-    v9 = ld8(a2);
-    v22 = ld8(v7);
-    if (v9 != v22) goto L13;
-    a2 = a2 + 1ull;
-    v7 = v7 + 1ull;
-    v19 = v19 - 1ull;
-    if (v19 == 0) goto L11;
-    goto L12;
-  L13:;
-    v21 = (v9 < v22) ? 0u : 2u;
-  L11:;
-    v9 = (ld8(v8) >> 5) & 7u;
-    v22 = (ld8(a1) >> 5) & 7u;
-    if ((v9 == v22) ? (v20 ? (uint32_t)(v21 == 0) : v13) : (uint32_t)(v9 < v22)) goto L5;
+    canonical_after_item_20(v5 + 8ull, v8, v7, a4);
+    if (ld8(v5 + 8u) != 1u) goto L3;
+    v6 = ld64(v5 + 24u);
+    v9 = v7 - v6;
+    const uint32_t t1 = order_ctap2_order_24(a1, a2, v8, v9);
+    if ((t1 & 255u) == 0) goto L7;
     st64(a0 + 16u, 0ull);
     st64(a0 + 8u, 0ull);
     st64(a0, 0ull);
-    goto L14;
+    goto L8;
+  L7:;
+    canonical_after_item_20(v5 + 8ull, ld64(v5 + 16u), v6, a4);
+    if (ld8(v5 + 8u) != 1u) goto L4;
+    v7 = ld64(v5 + 24u);
+    a2 = v9;
+    a1 = v8;
+    v6 = ld64(v5 + 16u);
+    v8 = v6;
+    a3 = a3 - 1ull;
+    if (a3 != 0) goto L6;
+  L2:;
+    st64(a0, 1ull);
+    st64(a0 + 16ull, v7);
+    st64(a0 + 8ull, v6);
+    goto L8;
   L4:;
     st64(a0 + 16u, 0ull);
     st64(a0 + 8u, 0ull);
     st64(a0, 0ull);
-    goto L14;
-  L5:;
-    canonical_after_item_20(v5 + 8ull, v12, v10, a4);
-    if (ld8(v5 + 8u) != 1u) goto L15;
-    v9 = 0u;
-    a2 = ld64(v5 + 24u);
-    v6 = v11;
-    v8 = a1;
-    v7 = ld64(v5 + 16u);
-    a1 = v7;
-    a3 = a3 - 1ull;
-    if (a3 != 0) goto L3;
-  L2:;
-    st64(a0, 1ull);
-    st64(a0 + 16ull, a2);
-    st64(a0 + 8ull, v7);
-    goto L14;
-  L15:;
+    goto L8;
+  L3:;
     st64(a0 + 16u, 0ull);
     st64(a0 + 8u, 0ull);
     st64(a0, 0ull);
-  L14:;
+  L8:;
 }
 
-static void client_data_after_string_24(uint64_t a0, uint64_t a1, uint64_t a2, uint64_t a3, uint64_t a4) {
+static uint32_t order_ctap2_order_24(uint64_t a0, uint64_t a1, uint64_t a2, uint64_t a3) {
+    uint32_t v4 = 0, v10 = 0, v14 = 0, v15 = 0, v16 = 0, v17 = 0, v18 = 0;
+    uint64_t v5 = 0, v6 = 0, v7 = 0, v8 = 0, v9 = 0, v11 = 0, v12 = 0, v13 = 0;
+    v4 = (uint32_t)(a1 < a3);
+    v5 = 0ull;
+    v6 = (a3 < a1) ? a3 : a1;
+    if (v6 < 64ull) goto L1;
+    v7 = v6 & 0xffffffffffffffc0ull;
+    v5 = 0ull;
+    v8 = a0;
+    v9 = a2;
+  L2:;
+    v10 = 0u;
+    v11 = 0ull;
+  L3:;
+    v12 = v8 + v11;
+    v13 = v9 + v11;
+    v10 = (v10 | (uint32_t)(ld8(v12) != ld8(v13))) | (uint32_t)(ld8(v12 + 1ull) != ld8(v13 + 1ull));
+    v11 = v11 + 2ull;
+    if (v11 != 64ull) goto L3;
+    if (v10 & 1u) goto L1;
+    v8 = v8 + 64ull;
+    v9 = v9 + 64ull;
+    v5 = v5 + 64ull;
+    if ((v6 - v5) > 63ull) goto L2;
+    v5 = v7;
+  L1:;
+    v14 = v4 ? 0u : 2u;
+    v15 = (uint32_t)(a1 == a3);
+    v11 = v6 - v5;
+    if (v11 < 8ull) goto L4;
+  L5:;
+    if (ld64(a0 + v5) != ld64(a2 + v5)) goto L4;
+    v5 = v5 + 8ull;
+    v11 = v11 - 8ull;
+    if (v11 > 7ull) goto L5;
+  L4:;
+    v16 = v15 ? 1u : v14;
+    v17 = ld8(a2);
+    v18 = ld8(a0);
+    if (v6 <= v5) goto L6;
+    v11 = a0 + v5;
+    v12 = a2 + v5;
+    v13 = v6 - v5;
+  L7:;
+    v10 = ld8(v11);
+    v4 = ld8(v12);
+    if (v10 != v4) goto L8;
+    v11 = v11 + 1ull;
+    v12 = v12 + 1ull;
+    v13 = v13 - 1ull;
+    if (v13 == 0) goto L6;
+    goto L7;
+  L8:;
+    v16 = (v10 < v4) ? 0u : 2u;
+  L6:;
+    v10 = (v18 >> 5) & 7u;
+    v4 = (v17 >> 5) & 7u;
+    return (v10 == v4) ? (v15 ? v16 : v14) : ((v10 < v4) ? 0u : 2u);
+}
+
+static void client_data_after_string_25(uint64_t a0, uint64_t a1, uint64_t a2, uint64_t a3, uint64_t a4) {
     FRAME(frame, 80);
     uint32_t v6 = 0;
     uint64_t v5 = 0, v7 = 0;
     v5 = FRAME_AT(frame);
-    client_data_after_25(v5, a1, a2, DATA + 47ull, 1ull);
+    client_data_after_26(v5, a1, a2, DATA + 47ull, 1ull);
     if (ld8(v5) != 1u) goto L1;
     a2 = ld64(v5 + 16u);
     a1 = ld64(v5 + 8u);
@@ -1964,10 +2003,10 @@ static void client_data_after_string_24(uint64_t a0, uint64_t a1, uint64_t a2, u
     st64(v5 + 48u, 0ull);
     if (v6 == 92u) goto L4;
     if (v6 != 34u) goto L5;
-    client_data_after_25(v5 + 48ull, a1, a2, DATA + 48ull, 2ull);
+    client_data_after_26(v5 + 48ull, a1, a2, DATA + 48ull, 2ull);
     goto L6;
   L4:;
-    client_data_after_25(v5 + 48ull, a1, a2, DATA + 50ull, 2ull);
+    client_data_after_26(v5 + 48ull, a1, a2, DATA + 50ull, 2ull);
     goto L6;
   L5:;
     if (v6 > 31u) goto L7;
@@ -1976,7 +2015,7 @@ static void client_data_after_string_24(uint64_t a0, uint64_t a1, uint64_t a2, u
     const uint32_t t1 = v6 | 48u;
     v6 = v6 & 15u;
     st8(v5 + 79u, (v6 < 10u) ? t1 : (v6 + 87u));
-    client_data_after_25(v5 + 48ull, a1, a2, v5 + 74ull, 6ull);
+    client_data_after_26(v5 + 48ull, a1, a2, v5 + 74ull, 6ull);
     goto L6;
   L7:;
     if (a2 != 0) goto L8;
@@ -2004,7 +2043,7 @@ static void client_data_after_string_24(uint64_t a0, uint64_t a1, uint64_t a2, u
     st64(a0, 0ull);
     goto L10;
   L3:;
-    client_data_after_25(v5 + 24ull, a1, a2, DATA + 47ull, 1ull);
+    client_data_after_26(v5 + 24ull, a1, a2, DATA + 47ull, 1ull);
     st64(a0, (uint64_t)ld8(v5 + 24u));
     st64(a0 + 8ull, ld64(v5 + 32u));
     st64(a0 + 16ull, ld64(v5 + 40u));
@@ -2016,7 +2055,7 @@ static void client_data_after_string_24(uint64_t a0, uint64_t a1, uint64_t a2, u
   L10:;
 }
 
-static void client_data_after_25(uint64_t a0, uint64_t a1, uint64_t a2, uint64_t a3, uint64_t a4) {
+static void client_data_after_26(uint64_t a0, uint64_t a1, uint64_t a2, uint64_t a3, uint64_t a4) {
     FRAME(frame, 32);
     uint32_t v9 = 0;
     uint64_t v5 = 0, v6 = 0, v7 = 0, v8 = 0;
@@ -2037,11 +2076,11 @@ static void client_data_after_25(uint64_t a0, uint64_t a1, uint64_t a2, uint64_t
     goto L3;
   L2:;
     if (a4 > 8ull) goto L4;
-    const uint32_t t2 = scan_any_in_ends_26(v5, a4, 4ull);
+    const uint32_t t2 = scan_any_in_ends_27(v5, a4, 4ull);
     v9 = t2;
     goto L3;
   L4:;
-    const uint32_t t3 = scan_any_in_quarters_27(v5, a4, 8ull);
+    const uint32_t t3 = scan_any_in_quarters_28(v5, a4, 8ull);
     v9 = t3;
   L3:;
     v8 = v9 ? 0ull : (a2 - a4);
@@ -2053,7 +2092,7 @@ static void client_data_after_25(uint64_t a0, uint64_t a1, uint64_t a2, uint64_t
     st64(a0 + 8ull, v7);
 }
 
-static uint32_t scan_any_in_ends_26(uint64_t a0, uint64_t a1, uint64_t a2) {
+static uint32_t scan_any_in_ends_27(uint64_t a0, uint64_t a1, uint64_t a2) {
     uint32_t v6 = 0, v10 = 0;
     uint64_t v3 = 0, v4 = 0, v5 = 0, v7 = 0, v8 = 0, v9 = 0, v11 = 0;
     v3 = a2 & 3ull;
@@ -2110,7 +2149,7 @@ static uint32_t scan_any_in_ends_26(uint64_t a0, uint64_t a1, uint64_t a2) {
     return (v6 | v10) & 1u;
 }
 
-static uint32_t scan_any_in_quarters_27(uint64_t a0, uint64_t a1, uint64_t a2) {
+static uint32_t scan_any_in_quarters_28(uint64_t a0, uint64_t a1, uint64_t a2) {
     uint32_t v7 = 0, v13 = 0, v14 = 0, v15 = 0;
     uint64_t v3 = 0, v4 = 0, v5 = 0, v6 = 0, v8 = 0, v9 = 0, v10 = 0, v11 = 0, v12 = 0;
     v3 = a2 & 3ull;
@@ -2216,7 +2255,484 @@ static uint32_t scan_any_in_quarters_27(uint64_t a0, uint64_t a1, uint64_t a2) {
     return (((v7 | v14) | v15) | v13) & 1u;
 }
 
-static uint32_t item_fill_28(uint64_t a0, uint64_t a1) {
+static uint32_t writer_put_head_29(uint64_t a0, uint64_t a1, uint64_t a2, uint32_t a3, uint64_t a4, uint64_t a5, uint64_t a6) {
+    FRAME(frame, 16);
+    uint32_t v8 = 0;
+    uint64_t v7 = 0;
+    v7 = FRAME_AT(frame);
+    a3 = a3 << 5;
+    if (a4 > 23ull) goto L1;
+    const uint32_t t1 = writer_put_item_30(a0, a1, a2, a3 | (uint32_t)a4, DATA + 74ull, 0ull, a5, a6);
+    a3 = t1;
+    goto L2;
+  L1:;
+    if (a4 > 255ull) goto L3;
+    st8(v7 + 15u, a4);
+    const uint32_t t2 = writer_put_item_30(a0, a1, a2, a3 | 24u, v7 + 15ull, 1ull, a5, a6);
+    a3 = t2;
+    goto L2;
+  L3:;
+    if (a4 > 65535ull) goto L4;
+    v8 = (uint32_t)a4;
+    st16(v7 + 12u, (v8 << 8) | ((v8 & 65280u) >> 8));
+    const uint32_t t3 = writer_put_item_30(a0, a1, a2, a3 | 25u, v7 + 12ull, 2ull, a5, a6);
+    a3 = t3;
+    goto L2;
+  L4:;
+    if (a4 > 0xffffffffull) goto L5;
+    v8 = (uint32_t)a4;
+    st32(v7 + 8u, (rotr32(v8 & 0xff00ffu, 8u) | ((v8 << 8) & 0xff0000u)) | (uint32_t)(a4 >> 24));
+    const uint32_t t4 = writer_put_item_30(a0, a1, a2, a3 | 26u, v7 + 8ull, 4ull, a5, a6);
+    a3 = t4;
+    goto L2;
+  L5:;
+    const uint64_t t5 = ((a4 << 56) | ((a4 & 65280ull) << 40)) | (((a4 & 0xff0000ull) << 24) | ((a4 & 0xff000000ull) << 8));
+    const uint64_t t6 = (((a4 >> 8) & 0xff000000ull) | ((a4 >> 24) & 0xff0000ull)) | (((a4 >> 40) & 65280ull) | (a4 >> 56));
+    st64(v7, t5 | t6);
+    const uint32_t t7 = writer_put_item_30(a0, a1, a2, a3 | 27u, v7, 8ull, a5, a6);
+    a3 = t7;
+  L2:;
+    return a3;
+}
+
+static uint32_t writer_put_item_30(uint64_t a0, uint64_t a1, uint64_t a2, uint32_t a3, uint64_t a4, uint64_t a5, uint64_t a6, uint64_t a7) {
+    uint32_t v8 = 0;
+    uint64_t v9 = 0, v10 = 0, v11 = 0, v12 = 0, v13 = 0, v14 = 0;
+    v8 = 0u;
+    v9 = 0xffffffffffffffffull;
+    v10 = ld64(a2);
+    if (a1 <= v10) goto L1;
+    v9 = 0xffffffffffffffffull;
+    a1 = a1 + (v10 ^ 0xffffffffffffffffull);
+    if (a1 < a5) goto L1;
+    if ((a1 - a5) < a7) goto L1;
+    st8(a0 + v10, a3);
+    v9 = v10 + 1ull;
+    st64(a2, v9);
+    a1 = a0 + v9;
+    if ((a1 - a4) < a5) goto L2;
+    if (a5 == 0) goto L3;
+    copy(a1, a4, a5);
+    goto L3;
+  L2:;
+    st8(a1, ld8(a4));
+    if (a5 == 1ull) goto L3;
+    st8(a1 + 1u, ld8(a4 + 1u));
+    if (a5 == 2ull) goto L3;
+    st8(a1 + 2u, ld8(a4 + 2u));
+    if (a5 == 3ull) goto L3;
+    st8(a1 + 3u, ld8(a4 + 3u));
+    if (a5 == 4ull) goto L3;
+    st8(a1 + 4u, ld8(a4 + 4u));
+    if (a5 == 5ull) goto L3;
+    st8(a1 + 5u, ld8(a4 + 5u));
+    if (a5 == 6ull) goto L3;
+    st8(a1 + 6u, ld8(a4 + 6u));
+    if (a5 == 7ull) goto L3;
+    st8(a1 + 7u, ld8(a4 + 7u));
+  L3:;
+    v11 = v9 + a5;
+    st64(a2, v11);
+    v9 = a0 + v11;
+    if ((v9 - a6) >= a7) goto L4;
+    v12 = a7 & 3ull;
+    a1 = 0ull;
+    if (a7 < 4ull) goto L5;
+    v13 = a7 & 0xfffffffffffffffcull;
+    v14 = a0 + (v10 + a5);
+    a1 = 0ull;
+  L6:;
+    v9 = v14 + a1;
+    a4 = a6 + a1;
+    st8(v9 + 1ull, ld8(a4));
+    st8(v9 + 2ull, ld8(a4 + 1ull));
+    st8(v9 + 3ull, ld8(a4 + 2ull));
+    st8(v9 + 4ull, ld8(a4 + 3ull));
+    a1 = a1 + 4ull;
+    if (v13 != a1) goto L6;
+    if (v12 == 0) goto L7;
+  L5:;
+    v9 = a6 + a1;
+    a1 = (((a1 + v10) + a5) + a0) + 1ull;
+  L8:;
+    st8(a1, ld8(v9));
+    a1 = a1 + 1ull;
+    v9 = v9 + 1ull;
+    v12 = v12 - 1ull;
+    if (v12 != 0ull) goto L8;
+    goto L7;
+  L4:;
+    if (a7 == 0) goto L7;
+    copy(v9, a6, a7);
+  L7:;
+    v9 = v11 + a7;
+    v8 = 1u;
+  L1:;
+    st64(a2, v9);
+    return v8;
+}
+
+static void canonical_after_item_31(uint64_t a0, uint64_t a1, uint64_t a2, uint64_t a3) {
+    FRAME(frame, 96);
+    uint32_t v5 = 0, v8 = 0, v11 = 0, v12 = 0;
+    uint64_t v4 = 0, v6 = 0, v7 = 0, v9 = 0, v10 = 0, v13 = 0, v14 = 0;
+    v4 = FRAME_AT(frame);
+    st64(v4 + 16u, 0ull);
+    st64(v4 + 8u, a2);
+    st64(v4, a1);
+    st64(v4 + 24u, 0ull);
+    st64(v4 + 32u, 0ull);
+    st64(v4 + 40u, 0ull);
+    st64(v4 + 48u, 0ull);
+    st64(v4 + 56u, 0ull);
+    st64(v4 + 88u, 0ull);
+    st64(v4 + 80u, 0ull);
+    st64(v4 + 72u, 0ull);
+    Cursor_head_5(v4 + 64ull, v4);
+    if (ld8(v4 + 64u) == 1u) goto L1;
+    if (a2 == 0) goto L2;
+    v5 = ld8(a1);
+    if ((v5 & 28u) != 28u) goto L3;
+    v5 = 1u;
+    goto L4;
+  L3:;
+    if (a2 == 1ull) goto L2;
+    if (v5 != 248u) goto L2;
+    v5 = 7u;
+    goto L4;
+  L1:;
+    v6 = ld64(v4 + 16u);
+    v7 = ld64(v4 + 88u);
+    v8 = ld8(v4 + 73u);
+    v9 = ld64(v4 + 80u);
+    v5 = (uint32_t)v9;
+    v10 = 1ull;
+    v11 = ld8(v4 + 72u);
+    switch (v11) {
+    case 2: case 3: case 4: case 5: goto L5;
+    case 7: goto L6;
+    case 8: goto L7;
+    case 9: goto L8;
+    default: goto L9;
+    }
+  L6:;
+    v10 = ((v8 & 255u) < 24u) ? 1ull : 2ull;
+    goto L8;
+  L7:;
+    v12 = v5 & 255u;
+    v10 = (v12 == 2u) ? 3ull : ((v12 == 4u) ? 5ull : 9ull);
+    goto L8;
+  L5:;
+    if ((v5 & 255u) == 0) goto L8;
+    if (v7 < 24ull) goto L8;
+    if (v7 >= 256ull) goto L10;
+    v10 = 2ull;
+    goto L8;
+  L10:;
+    if (v7 >= 65536ull) goto L11;
+    v10 = 3ull;
+    goto L8;
+  L11:;
+    v10 = (v7 < 0x100000000ull) ? 5ull : 9ull;
+    goto L8;
+  L9:;
+    if (v9 < 24ull) goto L8;
+    if (v9 >= 256ull) goto L12;
+    v10 = 2ull;
+    goto L8;
+  L12:;
+    if (v9 >= 65536ull) goto L13;
+    v10 = 3ull;
+    goto L8;
+  L13:;
+    v10 = (v9 < 0x100000000ull) ? 5ull : 9ull;
+  L8:;
+    if (v6 == v10) goto L14;
+    v5 = 0u;
+    v11 = 1u;
+    v9 = 1ull;
+    v6 = 0ull;
+    v10 = a1;
+    a3 = a2;
+    goto L15;
+  L2:;
+    v10 = a1 + a2;
+    a3 = 0ull;
+    v5 = 0u;
+    goto L16;
+  L14:;
+    v10 = a2 - v6;
+    v6 = a1 + v6;
+    switch (v11) {
+    case 1: goto L17;
+    case 2: goto L18;
+    case 3: goto L19;
+    case 4: goto L20;
+    case 5: goto L21;
+    case 6: goto L22;
+    case 7: goto L23;
+    case 8: goto L24;
+    case 9: goto L25;
+    default: goto L26;
+    }
+  L26:;
+    v5 = (uint32_t)(v6 >> 8);
+    goto L27;
+  L17:;
+    v5 = (uint32_t)(v6 >> 8);
+    goto L27;
+  L24:;
+    v5 = (uint32_t)(v6 >> 8);
+    goto L27;
+  L23:;
+    a3 = 0ull;
+    v9 = 0ull;
+    if ((v8 & 255u) != 23u) goto L28;
+    v9 = 1ull;
+    v6 = 4ull;
+    v10 = a1;
+    a3 = a2;
+  L28:;
+    v5 = (uint32_t)(v6 >> 8);
+    v11 = (uint32_t)v6;
+    goto L29;
+  L18:;
+    v9 = 1ull;
+    if (v5 & 255u) goto L30;
+    v5 = 0u;
+    v11 = 2u;
+    v6 = 0ull;
+    v10 = a1;
+    a3 = a2;
+    goto L29;
+  L30:;
+    if (v10 >= v7) goto L31;
+    v10 = a1 + a2;
+    v6 = 0ull;
+    v11 = 0u;
+    v5 = 0u;
+    a3 = 0ull;
+    goto L29;
+  L31:;
+    v10 = v10 - v7;
+    a2 = v6 + v7;
+    v6 = a2 & 0xffffffffffff0000ull;
+    v11 = (uint32_t)a2;
+    v5 = (uint32_t)(a2 >> 8);
+    goto L32;
+  L19:;
+    v9 = 1ull;
+    if (v5 & 255u) goto L33;
+    v7 = 2ull;
+    v13 = 0ull;
+    v14 = 0ull;
+    v10 = a1;
+    a3 = a2;
+    goto L34;
+  L33:;
+    v14 = 0ull;
+    st64(v4 + 16u, 0ull);
+    st64(v4 + 8u, 0ull);
+    st64(v4, 0ull);
+    if (v10 >= v7) goto L35;
+    v6 = a1 + a2;
+    a3 = 0ull;
+    goto L36;
+  L35:;
+    utf8_from_utf8_13(v4, v6, v7);
+    v14 = 1024ull;
+    if (ld8(v4) == 0) goto L37;
+    a3 = v10;
+  L36:;
+    v13 = 0ull;
+    v7 = 0ull;
+    v10 = v6;
+    goto L34;
+  L20:;
+    if ((v5 & 255u) != 1u) goto L38;
+    if (a3 != 0) goto L39;
+    v6 = 7ull;
+    v9 = 1ull;
+    v10 = a1;
+    a3 = a2;
+    goto L40;
+  L39:;
+    v9 = 0ull;
+    st64(v4 + 24u, 0ull);
+    st64(v4 + 16u, 0ull);
+    st64(v4 + 8u, 0ull);
+    st64(v4, 0ull);
+    if (v7 != 0) goto L41;
+    a3 = 0ull;
+    goto L40;
+  L41:;
+    a2 = a3 - (uint64_t)(uint32_t)(a3 != 0ull);
+  L42:;
+    canonical_after_item_31(v4, v6, v10, a2);
+    if (ld8(v4)) goto L43;
+    v10 = ld64(v4 + 16u);
+    v6 = ld64(v4 + 8u);
+    v7 = v7 - 1ull;
+    if (v7 != 0) goto L42;
+    a3 = 0ull;
+    goto L40;
+  L43:;
+    v9 = 1ull;
+    v6 = (uint64_t)ld16(v4 + 8u);
+    a3 = ld64(v4 + 24u);
+    v10 = ld64(v4 + 16u);
+  L40:;
+    v5 = (uint32_t)(v6 >> 8);
+    v11 = (uint32_t)v6;
+    goto L29;
+  L21:;
+    if ((v5 & 255u) != 1u) goto L38;
+    if (a3 != 0) goto L44;
+    v6 = 7ull;
+    v9 = 1ull;
+    v10 = a1;
+    a3 = a2;
+    goto L45;
+  L44:;
+    v9 = 0ull;
+    st64(v4, 0ull);
+    st64(v4 + 8u, 0ull);
+    st64(v4 + 16u, 0ull);
+    st64(v4 + 24u, 0ull);
+    st64(v4 + 64u, 0ull);
+    st64(v4 + 72u, 0ull);
+    st64(v4 + 80u, 0ull);
+    st64(v4 + 88u, 0ull);
+    if (v7 != 0) goto L46;
+    a3 = 0ull;
+    goto L45;
+  L46:;
+    a2 = a3 - (uint64_t)(uint32_t)(a3 != 0ull);
+    canonical_after_item_31(v4, v6, v10, a2);
+    if (ld8(v4)) goto L47;
+    v14 = ld64(v4 + 16u);
+    canonical_after_item_31(v4 + 64ull, ld64(v4 + 8u), v14, a2);
+    if (ld8(v4 + 64u)) goto L48;
+    a3 = ld64(v4 + 80u);
+    v13 = ld64(v4 + 72u);
+    a1 = v7 - 1ull;
+    if (a1 != 0) goto L49;
+    v6 = v13;
+    goto L50;
+  L49:;
+    v7 = v10 - v14;
+    v10 = v13;
+  L51:;
+    canonical_after_item_31(v4, v10, a3, a2);
+    if (ld8(v4)) goto L47;
+    v14 = ld64(v4 + 16u);
+    v13 = a3 - v14;
+    const uint32_t t1 = order_ctap2_order_24(v6, v7, v10, v13);
+    v5 = t1 & 255u;
+    if (v5 == 0) goto L52;
+    switch (v5 - 1u) {
+    case 1: goto L53;
+    default: goto L54;
+    }
+  L53:;
+    v6 = 5ull;
+    v9 = 1ull;
+    goto L45;
+  L54:;
+    v6 = 6ull;
+    v9 = 1ull;
+    goto L45;
+  L52:;
+    canonical_after_item_31(v4 + 64ull, ld64(v4 + 8u), v14, a2);
+    if (ld8(v4 + 64u)) goto L48;
+    a3 = ld64(v4 + 80u);
+    v7 = v13;
+    v6 = v10;
+    v14 = ld64(v4 + 72u);
+    v10 = v14;
+    a1 = a1 - 1ull;
+    if (a1 != 0) goto L51;
+    v6 = v14;
+    goto L50;
+  L48:;
+    v9 = 1ull;
+    v6 = (uint64_t)ld16(v4 + 72u);
+    a3 = ld64(v4 + 88u);
+    v10 = ld64(v4 + 80u);
+    goto L45;
+  L22:;
+    v9 = 1ull;
+    v11 = 3u;
+    v5 = 0u;
+    goto L55;
+  L25:;
+    v9 = 1ull;
+    v11 = 0u;
+    v5 = 2u;
+  L55:;
+    v6 = 0ull;
+    goto L56;
+  L37:;
+    v10 = v10 - v7;
+    v14 = v6 + v7;
+    v7 = v14 & 255ull;
+    v13 = v14 & 0xffffffffffff0000ull;
+    a3 = 0ull;
+    v9 = 0ull;
+    goto L34;
+  L38:;
+    v9 = 1ull;
+    v11 = 2u;
+    v5 = 0u;
+    v6 = 2ull;
+  L56:;
+    a3 = a2;
+    v10 = a1;
+    goto L29;
+  L47:;
+    v9 = 1ull;
+    v6 = (uint64_t)ld16(v4 + 8u);
+    a3 = ld64(v4 + 24u);
+    v10 = ld64(v4 + 16u);
+    goto L45;
+  L50:;
+    v10 = a3;
+    a3 = 0ull;
+  L45:;
+    v5 = (uint32_t)(v6 >> 8);
+    v11 = (uint32_t)v6;
+    goto L29;
+  L34:;
+    v6 = (v13 | (v14 & 65280ull)) | v7;
+    v5 = (uint32_t)(v14 >> 8);
+    v11 = (uint32_t)v7;
+    goto L29;
+  L27:;
+    v11 = (uint32_t)v6;
+  L32:;
+    a3 = 0ull;
+    v9 = 0ull;
+  L29:;
+    v6 = v6 >> 16;
+    goto L15;
+  L4:;
+    v10 = a1;
+    a3 = a2;
+  L16:;
+    v11 = 0u;
+    v9 = 1ull;
+    v6 = 0ull;
+  L15:;
+    st64(a0, v9);
+    st16(a0 + 14ull, v6 >> 32);
+    st32(a0 + 10ull, v6);
+    st64(a0 + 24ull, a3);
+    st64(a0 + 16ull, v10);
+    st8(a0 + 9ull, v5);
+    st8(a0 + 8ull, v11);
+}
+
+static uint32_t item_fill_32(uint64_t a0, uint64_t a1) {
     uint32_t v2 = 0, v8 = 0;
     uint64_t v3 = 0, v4 = 0, v5 = 0, v6 = 0, v7 = 0;
     v2 = ld8(a1);
@@ -2285,7 +2801,7 @@ static uint32_t item_fill_28(uint64_t a0, uint64_t a1) {
     return (uint32_t)(v2 == 1u);
 }
 
-static uint32_t Cursor_more_29(uint64_t a0, uint64_t a1) {
+static uint32_t Cursor_more_33(uint64_t a0, uint64_t a1) {
     FRAME(frame, 32);
     uint32_t v3 = 0, v7 = 0;
     uint64_t v2 = 0, v4 = 0, v5 = 0, v6 = 0;
@@ -2329,7 +2845,7 @@ static uint32_t Cursor_more_29(uint64_t a0, uint64_t a1) {
     return v3;
 }
 
-static void Cursor_other_text_30(uint64_t a0, uint64_t a1) {
+static void Cursor_other_text_34(uint64_t a0, uint64_t a1) {
     FRAME(frame, 64);
     uint64_t v2 = 0, v3 = 0, v4 = 0;
     v2 = FRAME_AT(frame);
@@ -2342,7 +2858,7 @@ static void Cursor_other_text_30(uint64_t a0, uint64_t a1) {
     st64(v2 + 16u, 0ull);
     st64(v2, 0ull);
     st64(v2 + 8u, 0ull);
-    Cursor_other_string_31(v2 + 16ull, a1);
+    Cursor_other_string_35(v2 + 16ull, a1);
     a1 = 0ull;
     v4 = (uint64_t)ld8(v2 + 16u);
     if (v4 == 0) goto L1;
@@ -2358,7 +2874,7 @@ static void Cursor_other_text_30(uint64_t a0, uint64_t a1) {
     st64(a0 + 32ull, ld64(v2 + 8u));
 }
 
-static void Cursor_other_string_31(uint64_t a0, uint64_t a1) {
+static void Cursor_other_string_35(uint64_t a0, uint64_t a1) {
     FRAME(frame, 48);
     uint32_t v4 = 0, v5 = 0, v6 = 0, v7 = 0;
     uint64_t v2 = 0, v3 = 0, v8 = 0, v9 = 0, v10 = 0, v11 = 0, v12 = 0, v13 = 0, v14 = 0;
@@ -2467,7 +2983,7 @@ static void Cursor_other_string_31(uint64_t a0, uint64_t a1) {
     st64(a0 + 8ull, v10);
 }
 
-static uint32_t names_place_of_32(uint64_t a0, uint64_t a1, uint64_t a2) {
+static uint32_t names_place_of_36(uint64_t a0, uint64_t a1, uint64_t a2) {
     uint32_t v3 = 0;
     uint64_t v4 = 0;
     if (ld64(a0 + 8ull) != a2) goto L1;
@@ -2478,7 +2994,7 @@ static uint32_t names_place_of_32(uint64_t a0, uint64_t a1, uint64_t a2) {
     if ((ld8(a0 + 2ull) & 255u) != (ld8(a1 + 2ull) & 255u)) goto L1;
     if ((ld8(a0 + 3ull) & 255u) != (ld8(a1 + 3ull) & 255u)) goto L1;
     v3 = 1u;
-    const uint32_t t1 = slices_groups_equal_33(a0, a2, a1, a2);
+    const uint32_t t1 = slices_groups_equal_37(a0, a2, a1, a2);
     if (t1 == 0) goto L1;
     goto L3;
   L2:;
@@ -2500,7 +3016,7 @@ static uint32_t names_place_of_32(uint64_t a0, uint64_t a1, uint64_t a2) {
     return v3;
 }
 
-static uint32_t slices_groups_equal_33(uint64_t a0, uint64_t a1, uint64_t a2, uint64_t a3) {
+static uint32_t slices_groups_equal_37(uint64_t a0, uint64_t a1, uint64_t a2, uint64_t a3) {
     FRAME(frame, 32);
     uint32_t v5 = 0;
     uint64_t v4 = 0, v6 = 0, v7 = 0, v8 = 0, v9 = 0, v10 = 0, v11 = 0;
@@ -2510,12 +3026,12 @@ static uint32_t slices_groups_equal_33(uint64_t a0, uint64_t a1, uint64_t a2, ui
     st64(v4 + 8u, a1);
     st64(v4, a0);
     if (a1 > 8ull) goto L1;
-    const uint32_t t1 = scan_any_in_ends_26(v4, a1, 4ull);
+    const uint32_t t1 = scan_any_in_ends_27(v4, a1, 4ull);
     v5 = t1;
     goto L2;
   L1:;
     if (a1 > 32ull) goto L3;
-    const uint32_t t2 = scan_any_in_quarters_27(v4, a1, 8ull);
+    const uint32_t t2 = scan_any_in_quarters_28(v4, a1, 8ull);
     v5 = t2;
     goto L2;
   L3:;
@@ -2574,13 +3090,13 @@ static uint32_t slices_groups_equal_33(uint64_t a0, uint64_t a1, uint64_t a2, ui
     if (a3 != 0ull) goto L12;
     goto L2;
   L4:;
-    const uint32_t t3 = scan_any_in_ends_26(v4, a1, 32ull);
+    const uint32_t t3 = scan_any_in_ends_27(v4, a1, 32ull);
     v5 = t3;
   L2:;
     return (v5 ^ 0xffffffffu) & 1u;
 }
 
-static void names_following_34(uint64_t a0, uint64_t a1, uint64_t a2, uint64_t a3, uint64_t a4) {
+static void names_following_38(uint64_t a0, uint64_t a1, uint64_t a2, uint64_t a3, uint64_t a4) {
     uint64_t v5 = 0;
     if (a2 >= a4) goto L1;
     st64(a0 + 16u, 0ull);
@@ -2593,7 +3109,7 @@ static void names_following_34(uint64_t a0, uint64_t a1, uint64_t a2, uint64_t a
     if ((ld8(a1 + 1ull) & 255u) != (ld8(a3 + 1ull) & 255u)) goto L3;
     if ((ld8(a1 + 2ull) & 255u) != (ld8(a3 + 2ull) & 255u)) goto L3;
     if ((ld8(a1 + 3ull) & 255u) != (ld8(a3 + 3ull) & 255u)) goto L3;
-    const uint32_t t1 = slices_groups_equal_33(a1, a4, a3, a4);
+    const uint32_t t1 = slices_groups_equal_37(a1, a4, a3, a4);
     if (t1 == 0) goto L3;
     goto L4;
   L2:;
@@ -2736,12 +3252,12 @@ static uint32_t code_puffgrit_is_client_data(uint64_t a0, uint64_t a1, uint64_t 
     st64(v11 + 160u, 0ull);
     st64(v11 + 168u, 0ull);
     st64(v11 + 176u, 0ull);
-    client_data_after_25(v11 + 136ull, a0 + ((a0 == 0) ? 4096ull : 0ull), a1, DATA + 25ull, 8ull);
+    client_data_after_26(v11 + 136ull, a0 + ((a0 == 0) ? 4096ull : 0ull), a1, DATA + 25ull, 8ull);
     if (ld8(v11 + 136u) != 1u) goto L1;
-    client_data_after_string_24(v11 + 136ull, ld64(v11 + 144u), ld64(v11 + 152u), a6, a2);
+    client_data_after_string_25(v11 + 136ull, ld64(v11 + 144u), ld64(v11 + 152u), a6, a2);
     if (ld8(v11 + 136u) != 1u) goto L1;
     a2 = DATA;
-    client_data_after_25(v11 + 136ull, ld64(v11 + 144u), ld64(v11 + 152u), a2 + 33ull, 14ull);
+    client_data_after_26(v11 + 136ull, ld64(v11 + 144u), ld64(v11 + 152u), a2 + 33ull, 14ull);
     if (ld8(v11 + 136u) != 1u) goto L1;
     a2 = a4 + ((a4 == 0) ? 4096ull : 0ull);
     a8 = ld64(v11 + 152u);
@@ -2804,7 +3320,7 @@ static uint32_t code_puffgrit_is_client_data(uint64_t a0, uint64_t a1, uint64_t 
     st8(v11 + 110u, v16);
     st8(v11 + 109u, v17);
     st8(v11 + 108u, v15);
-    client_data_after_25(v11 + 184ull, a6, a8, v11 + 108ull, 4ull);
+    client_data_after_26(v11 + 184ull, a6, a8, v11 + 108ull, 4ull);
     if (ld8(v11 + 184u) != 1u) goto L1;
     a2 = a2 + 3ull;
     a8 = ld64(v11 + 200u);
@@ -2894,19 +3410,19 @@ static uint32_t code_puffgrit_is_client_data(uint64_t a0, uint64_t a1, uint64_t 
     st64(v11 + 144u, a6);
     st64(v11 + 136u, 1ull);
   L22:;
-    client_data_after_25(v11 + 160ull, a6, a8, DATA + 47ull, 1ull);
+    client_data_after_26(v11 + 160ull, a6, a8, DATA + 47ull, 1ull);
     a2 = (uint64_t)ld8(v11 + 160u);
     st64(v11 + 80u, a2);
     st64(v11 + 88u, ld64(v11 + 168u));
     st64(v11 + 96u, ld64(v11 + 176u));
     if (a2 != 1ull) goto L1;
     a2 = DATA;
-    client_data_after_25(v11 + 80ull, ld64(v11 + 88u), ld64(v11 + 96u), a2 + 0ull, 10ull);
+    client_data_after_26(v11 + 80ull, ld64(v11 + 88u), ld64(v11 + 96u), a2 + 0ull, 10ull);
     if (ld8(v11 + 80u) != 1u) goto L1;
-    client_data_after_string_24(v11 + 80ull, ld64(v11 + 88u), ld64(v11 + 96u), a7, a3);
+    client_data_after_string_25(v11 + 80ull, ld64(v11 + 88u), ld64(v11 + 96u), a7, a3);
     if (ld8(v11 + 80u) != 1u) goto L1;
     a2 = DATA;
-    client_data_after_25(v11 + 112ull, ld64(v11 + 88u), ld64(v11 + 96u), a2 + 10ull, 15ull);
+    client_data_after_26(v11 + 112ull, ld64(v11 + 88u), ld64(v11 + 96u), a2 + 10ull, 15ull);
     v12 = 0u;
     if (ld8(v11 + 112u) != 1u) goto L1;
     a2 = ld64(v11 + 128u);
@@ -2915,16 +3431,16 @@ static uint32_t code_puffgrit_is_client_data(uint64_t a0, uint64_t a1, uint64_t 
     st64(v11 + 144u, 0ull);
     st64(v11 + 152u, 0ull);
     if (a9 == 0) goto L32;
-    client_data_after_25(v11 + 112ull, a6, a2, DATA + 52ull, 4ull);
+    client_data_after_26(v11 + 112ull, a6, a2, DATA + 52ull, 4ull);
     if (ld8(v11 + 112u) != 1u) goto L1;
     a2 = ld64(v11 + 128u);
     a6 = ld64(v11 + 120u);
     st64(v11 + 176u, 0ull);
     st64(v11 + 168u, 0ull);
     st64(v11 + 160u, 0ull);
-    client_data_after_25(v11 + 184ull, a6, a2, DATA + 61ull, 13ull);
+    client_data_after_26(v11 + 184ull, a6, a2, DATA + 61ull, 13ull);
     if (ld8(v11 + 184u) != 1u) goto L33;
-    client_data_after_string_24(v11 + 160ull, ld64(v11 + 192u), ld64(v11 + 200u), v13, a9);
+    client_data_after_string_25(v11 + 160ull, ld64(v11 + 192u), ld64(v11 + 200u), v13, a9);
     v14 = ld8(v11 + 160u);
     goto L34;
   L33:;
@@ -2937,7 +3453,7 @@ static uint32_t code_puffgrit_is_client_data(uint64_t a0, uint64_t a1, uint64_t 
     st64(v11 + 144u, ld64(v11 + 168u));
     goto L35;
   L32:;
-    client_data_after_25(v11 + 136ull, a6, a2, DATA + 56ull, 5ull);
+    client_data_after_26(v11 + 136ull, a6, a2, DATA + 56ull, 5ull);
     v14 = ld8(v11 + 136u);
   L35:;
     if ((v14 & 255u) != 1u) goto L1;
@@ -2967,13 +3483,181 @@ static uint64_t code_puffgrit_item_len(uint64_t a0, uint64_t a1) {
     return v3 ? a0 : 0ull;
 }
 
+static uint32_t code_puffgrit_write_end(uint64_t a0, uint64_t a1, uint64_t a2) {
+    FRAME(frame, 32);
+    uint32_t v4 = 0;
+    uint64_t v3 = 0;
+    v3 = FRAME_AT(frame);
+    v4 = 0u;
+    if (a1 < a2) goto L1;
+    st64(v3 + 24u, 0ull);
+    st64(v3 + 16u, 0ull);
+    st64(v3 + 8u, 0ull);
+    canonical_after_item_20(v3 + 8ull, a0 + ((a0 == 0) ? 4096ull : 0ull), a2, 256ull);
+    v4 = (uint32_t)(ld8(v3 + 8u) != 0u) & (uint32_t)(ld64(v3 + 24u) == 0);
+  L1:;
+    return v4;
+}
+
+static uint32_t code_puffgrit_write_bool(uint64_t a0, uint64_t a1, uint64_t a2, uint32_t a3) {
+    uint64_t v4 = 0, v5 = 0;
+    v4 = 0xffffffffffffffffull;
+    v5 = ld64(a2);
+    if (a1 <= v5) goto L1;
+    st8((a0 + ((a0 == 0) ? 4096ull : 0ull)) + v5, (a3 & 1u) ? 0xfffffff5u : 0xfffffff4u);
+    v4 = v5 + 1ull;
+  L1:;
+    st64(a2, v4);
+    return (uint32_t)(a1 > v5);
+}
+
+static uint32_t code_puffgrit_write_item(uint64_t a0, uint64_t a1, uint64_t a2, uint64_t a3, uint64_t a4) {
+    FRAME(frame, 32);
+    uint32_t v8 = 0;
+    uint64_t v5 = 0, v6 = 0, v7 = 0, v9 = 0, v10 = 0, v11 = 0, v12 = 0, v13 = 0, v14 = 0, v15 = 0;
+    v5 = FRAME_AT(frame);
+    st64(v5 + 24u, 0ull);
+    st64(v5 + 16u, 0ull);
+    st64(v5 + 8u, 0ull);
+    v6 = (a3 == 0) ? 4096ull : 0ull;
+    v7 = a3 + v6;
+    canonical_after_item_20(v5 + 8ull, v7, a4, 256ull);
+    v8 = 0u;
+    v9 = 0xffffffffffffffffull;
+    if (ld8(v5 + 8u) == 0) goto L1;
+    if (ld64(v5 + 24u) != 0ull) goto L1;
+    v10 = ld64(a2);
+    if (a1 < v10) goto L1;
+    if ((a1 - v10) < a4) goto L1;
+    v11 = (a0 == 0) ? 4096ull : 0ull;
+    v12 = (a0 + v11) + v10;
+    if ((v12 - v7) >= a4) goto L2;
+    v13 = a4 & 3ull;
+    a1 = 0ull;
+    if (a4 < 4ull) goto L3;
+    v14 = a4 & 0xfffffffffffffffcull;
+    a1 = 0ull;
+  L4:;
+    v9 = v12 + a1;
+    v15 = v7 + a1;
+    st8(v9, ld8(v15));
+    st8(v9 + 1ull, ld8(v15 + 1ull));
+    st8(v9 + 2ull, ld8(v15 + 2ull));
+    st8(v9 + 3ull, ld8(v15 + 3ull));
+    a1 = a1 + 4ull;
+    if (v14 != a1) goto L4;
+    if (v13 == 0) goto L5;
+  L3:;
+    v9 = a3 + (v6 + a1);
+    a1 = a0 + ((v11 + a1) + v10);
+  L6:;
+    st8(a1, ld8(v9));
+    a1 = a1 + 1ull;
+    v9 = v9 + 1ull;
+    v13 = v13 - 1ull;
+    if (v13 != 0ull) goto L6;
+    goto L5;
+  L2:;
+    if (a4 == 0) goto L5;
+    copy(v12, v7, a4);
+  L5:;
+    v9 = v10 + a4;
+    v8 = 1u;
+  L1:;
+    st64(a2, v9);
+    return v8;
+}
+
+static uint32_t code_puffgrit_write_null(uint64_t a0, uint64_t a1, uint64_t a2) {
+    uint64_t v3 = 0, v4 = 0;
+    v3 = 0xffffffffffffffffull;
+    v4 = ld64(a2);
+    if (a1 <= v4) goto L1;
+    st8((a0 + ((a0 == 0) ? 4096ull : 0ull)) + v4, 246u);
+    v3 = v4 + 1ull;
+  L1:;
+    st64(a2, v3);
+    return (uint32_t)(a1 > v4);
+}
+
+static uint32_t code_puffgrit_write_array(uint64_t a0, uint64_t a1, uint64_t a2, uint64_t a3) {
+    const uint32_t t1 = writer_put_head_29(a0 + ((a0 == 0) ? 4096ull : 0ull), a1, a2, 4u, a3, DATA + 74ull, 0ull);
+    return t1;
+}
+
+static uint32_t code_puffgrit_write_bytes(uint64_t a0, uint64_t a1, uint64_t a2, uint64_t a3, uint64_t a4) {
+    const uint32_t t1 = writer_put_head_29(a0 + ((a0 == 0) ? 4096ull : 0ull), a1, a2, 2u, a4, a3 + ((a3 == 0) ? 4096ull : 0ull), a4);
+    return t1;
+}
+
+static uint32_t code_puffgrit_write_int(uint64_t a0, uint64_t a1, uint64_t a2, uint64_t a3) {
+    a0 = a0 + ((a0 == 0) ? 4096ull : 0ull);
+    if (less_s64(a3, 0ull)) goto L1;
+    const uint32_t t1 = writer_put_head_29(a0, a1, a2, 0u, a3, DATA + 74ull, 0ull);
+    return t1;
+  L1:;
+    const uint32_t t2 = writer_put_head_29(a0, a1, a2, 1u, a3 ^ 0xffffffffffffffffull, DATA + 74ull, 0ull);
+    return t2;
+}
+
+static uint32_t code_puffgrit_write_map(uint64_t a0, uint64_t a1, uint64_t a2, uint64_t a3) {
+    const uint32_t t1 = writer_put_head_29(a0 + ((a0 == 0) ? 4096ull : 0ull), a1, a2, 5u, a3, DATA + 74ull, 0ull);
+    return t1;
+}
+
+static uint32_t code_puffgrit_write_text(uint64_t a0, uint64_t a1, uint64_t a2, uint64_t a3, uint64_t a4) {
+    FRAME(frame, 32);
+    uint32_t v6 = 0;
+    uint64_t v5 = 0;
+    v5 = FRAME_AT(frame);
+    st64(v5 + 24u, 0ull);
+    st64(v5 + 16u, 0ull);
+    st64(v5 + 8u, 0ull);
+    utf8_from_utf8_13(v5 + 8ull, a3 + ((a3 == 0) ? 4096ull : 0ull), a4);
+    if (ld8(v5 + 8u)) goto L1;
+    a3 = ld64(v5 + 24u);
+    const uint32_t t1 = writer_put_head_29(a0 + ((a0 == 0) ? 4096ull : 0ull), a1, a2, 3u, a3, ld64(v5 + 16u), a3);
+    v6 = t1;
+    goto L2;
+  L1:;
+    st64(a2, 0xffffffffffffffffull);
+    v6 = 0u;
+  L2:;
+    return v6;
+}
+
+static uint32_t code_puffgrit_not_canonical(uint64_t a0, uint64_t a1, uint64_t a2, uint64_t a3) {
+    FRAME(frame, 32);
+    uint32_t v5 = 0;
+    uint64_t v4 = 0;
+    v4 = FRAME_AT(frame);
+    st64(v4 + 24u, 0ull);
+    st64(v4 + 16u, 0ull);
+    st64(v4 + 8u, 0ull);
+    st64(v4, 0ull);
+    canonical_after_item_31(v4, a0 + ((a0 == 0) ? 4096ull : 0ull), a1, (a2 < 256ull) ? a2 : 256ull);
+    if (ld8(v4)) goto L1;
+    v5 = 9u;
+    a0 = ld64(v4 + 16u);
+    if (a0 != 0) goto L2;
+    v5 = 0u;
+    goto L3;
+  L1:;
+    v5 = ld8(v4 + 8u) + 1u;
+    a0 = ld64(v4 + 24u);
+  L2:;
+    st64(a3, a1 - a0);
+  L3:;
+    return v5;
+}
+
 static uint32_t code_puffgrit_item_at(uint64_t a0, uint64_t a1, uint64_t a2, uint64_t a3) {
     FRAME(frame, 64);
     uint32_t v5 = 0;
     uint64_t v4 = 0;
     v4 = FRAME_AT(frame);
     item_view_item_at_2(v4 + 8ull, a0 + ((a0 == 0) ? 4096ull : 0ull), a1, a2);
-    const uint32_t t1 = item_fill_28(a3, v4 + 8ull);
+    const uint32_t t1 = item_fill_32(a3, v4 + 8ull);
     v5 = t1;
     return v5;
 }
@@ -3013,7 +3697,7 @@ static uint32_t code_puffgrit_member(uint64_t a0, uint64_t a1, uint64_t a2, uint
     a1 = v5 + 240ull;
     v6 = shr_s64(a3, 63ull);
   L4:;
-    const uint32_t t1 = Cursor_more_29(v5 + 32ull, v5 + 160ull);
+    const uint32_t t1 = Cursor_more_33(v5 + 32ull, v5 + 160ull);
     if (t1 == 0) goto L3;
     st64(a1 + 16u, 0ull);
     st64(a1 + 8u, 0ull);
@@ -3084,7 +3768,7 @@ static uint32_t code_puffgrit_member(uint64_t a0, uint64_t a1, uint64_t a2, uint
     st64(v5 + 216u, a0);
     st64(v5 + 208u, a2);
   L2:;
-    const uint32_t t4 = item_fill_28(a4, v5 + 176ull);
+    const uint32_t t4 = item_fill_32(a4, v5 + 176ull);
     v7 = t4;
     return v7;
 }
@@ -3158,7 +3842,7 @@ static uint32_t code_puffgrit_named(uint64_t a0, uint64_t a1, uint64_t a2, uint6
     v11 = (v6 + 504ull) + 16ull;
     v12 = (v6 + 336ull) + 16ull;
   L7:;
-    const uint32_t t1 = Cursor_more_29(v6 + 128ull, v6 + 248ull);
+    const uint32_t t1 = Cursor_more_33(v6 + 128ull, v6 + 248ull);
     if (t1 == 0) goto L6;
     v13 = ld64(v6 + 136u);
     a0 = ld64(v6 + 144u);
@@ -3212,7 +3896,7 @@ static uint32_t code_puffgrit_named(uint64_t a0, uint64_t a1, uint64_t a2, uint6
     st64(v6 + 320u, v9);
     goto L12;
   L8:;
-    Cursor_other_text_30(v6 + 336ull, v6 + 128ull);
+    Cursor_other_text_34(v6 + 336ull, v6 + 128ull);
     if (ld8(v6 + 336u) != 1u) goto L13;
     v13 = ld64(v6 + 368u);
     v14 = ld64(v6 + 360u);
@@ -3293,7 +3977,7 @@ static uint32_t code_puffgrit_named(uint64_t a0, uint64_t a1, uint64_t a2, uint6
     st64(a4 + 8u, ld64(a3 + 8u));
     st64(a4, ld64(a3));
     if ((v7 & 255u) != 9u) goto L18;
-    const uint32_t t4 = names_place_of_32(v6 + 320ull, v14, a0);
+    const uint32_t t4 = names_place_of_36(v6 + 320ull, v14, a0);
     v7 = t4;
     goto L20;
   L18:;
@@ -3314,9 +3998,9 @@ static uint32_t code_puffgrit_named(uint64_t a0, uint64_t a1, uint64_t a2, uint6
     st64(v6 + 536u, 0ull);
     st64(v6 + 544u, 0ull);
     st64(v6 + 552u, 0ull);
-    names_following_34(v6 + 504ull, v9, v8, v14, a0);
+    names_following_38(v6 + 504ull, v9, v8, v14, a0);
     if (ld8(v6 + 504u) == 0) goto L20;
-    names_following_34(v6 + 536ull, ld64(v6 + 512u), ld64(v6 + 520u), v15, v13);
+    names_following_38(v6 + 536ull, ld64(v6 + 512u), ld64(v6 + 520u), v15, v13);
     a0 = v13 + a0;
     v14 = v9;
     if (ld8(v6 + 536u) == 1u) goto L14;
@@ -3336,7 +4020,7 @@ static uint32_t code_puffgrit_named(uint64_t a0, uint64_t a1, uint64_t a2, uint6
     if (t6 == 0) goto L6;
     goto L22;
   L12:;
-    const uint32_t t7 = names_place_of_32(v6 + 320ull, v14, v13);
+    const uint32_t t7 = names_place_of_36(v6 + 320ull, v14, v13);
     v7 = t7;
   L21:;
     if ((v7 & 255u) == 1u) goto L23;
@@ -3391,10 +4075,94 @@ static uint32_t code_puffgrit_named(uint64_t a0, uint64_t a1, uint64_t a2, uint6
     st64(v6 + 40u, a1);
     st64(v6 + 32u, a4);
   L3:;
-    const uint32_t t9 = item_fill_28(a5, v6);
+    const uint32_t t9 = item_fill_32(a5, v6);
     v7 = t9;
   L1:;
     return v7;
+}
+
+puffgrit_bool puffgrit_write_map(uint8_t *out, size_t out_len, size_t *len, uint64_t members) {
+    FRAME(frame, 16);
+    const uint64_t at = FRAME_AT(frame);
+    puffgrit_bool result;
+    st64(at, *len);
+    result = (code_puffgrit_write_map(ADDRESS(out), out_len, at, members) & 1);
+    *len = (size_t)ld64(at);
+    return result;
+}
+
+puffgrit_bool puffgrit_write_array(uint8_t *out, size_t out_len, size_t *len, uint64_t elements) {
+    FRAME(frame, 16);
+    const uint64_t at = FRAME_AT(frame);
+    puffgrit_bool result;
+    st64(at, *len);
+    result = (code_puffgrit_write_array(ADDRESS(out), out_len, at, elements) & 1);
+    *len = (size_t)ld64(at);
+    return result;
+}
+
+puffgrit_bool puffgrit_write_int(uint8_t *out, size_t out_len, size_t *len, int64_t value) {
+    FRAME(frame, 16);
+    const uint64_t at = FRAME_AT(frame);
+    puffgrit_bool result;
+    st64(at, *len);
+    result = (code_puffgrit_write_int(ADDRESS(out), out_len, at, (uint64_t)value) & 1);
+    *len = (size_t)ld64(at);
+    return result;
+}
+
+puffgrit_bool puffgrit_write_bytes(uint8_t *out, size_t out_len, size_t *len, const uint8_t *bytes, size_t bytes_len) {
+    FRAME(frame, 16);
+    const uint64_t at = FRAME_AT(frame);
+    puffgrit_bool result;
+    st64(at, *len);
+    result = (code_puffgrit_write_bytes(ADDRESS(out), out_len, at, ADDRESS(bytes), bytes_len) & 1);
+    *len = (size_t)ld64(at);
+    return result;
+}
+
+puffgrit_bool puffgrit_write_text(uint8_t *out, size_t out_len, size_t *len, const uint8_t *text, size_t text_len) {
+    FRAME(frame, 16);
+    const uint64_t at = FRAME_AT(frame);
+    puffgrit_bool result;
+    st64(at, *len);
+    result = (code_puffgrit_write_text(ADDRESS(out), out_len, at, ADDRESS(text), text_len) & 1);
+    *len = (size_t)ld64(at);
+    return result;
+}
+
+puffgrit_bool puffgrit_write_bool(uint8_t *out, size_t out_len, size_t *len, puffgrit_bool value) {
+    FRAME(frame, 16);
+    const uint64_t at = FRAME_AT(frame);
+    puffgrit_bool result;
+    st64(at, *len);
+    result = (code_puffgrit_write_bool(ADDRESS(out), out_len, at, value ? 1 : 0) & 1);
+    *len = (size_t)ld64(at);
+    return result;
+}
+
+puffgrit_bool puffgrit_write_null(uint8_t *out, size_t out_len, size_t *len) {
+    FRAME(frame, 16);
+    const uint64_t at = FRAME_AT(frame);
+    puffgrit_bool result;
+    st64(at, *len);
+    result = (code_puffgrit_write_null(ADDRESS(out), out_len, at) & 1);
+    *len = (size_t)ld64(at);
+    return result;
+}
+
+puffgrit_bool puffgrit_write_item(uint8_t *out, size_t out_len, size_t *len, const uint8_t *item, size_t item_len) {
+    FRAME(frame, 16);
+    const uint64_t at = FRAME_AT(frame);
+    puffgrit_bool result;
+    st64(at, *len);
+    result = (code_puffgrit_write_item(ADDRESS(out), out_len, at, ADDRESS(item), item_len) & 1);
+    *len = (size_t)ld64(at);
+    return result;
+}
+
+puffgrit_bool puffgrit_write_end(const uint8_t *out, size_t out_len, size_t len) {
+    return (puffgrit_bool)(code_puffgrit_write_end(ADDRESS(out), out_len, len) & 1);
 }
 
 size_t puffgrit_item_len(const uint8_t *bytes, size_t bytes_len) {
@@ -3443,6 +4211,16 @@ puffgrit_bool puffgrit_named(const uint8_t *bytes, size_t bytes_len, size_t map,
 
 puffgrit_bool puffgrit_is_client_data(const uint8_t *bytes, size_t bytes_len, const uint8_t *ty, size_t ty_len, const uint8_t *challenge, size_t challenge_len, const uint8_t *origin, size_t origin_len, const uint8_t *top_origin, size_t top_origin_len, puffgrit_bool requires_top_origin) {
     return (puffgrit_bool)(code_puffgrit_is_client_data(ADDRESS(bytes), bytes_len, ADDRESS(ty), ty_len, ADDRESS(challenge), challenge_len, ADDRESS(origin), origin_len, ADDRESS(top_origin), top_origin_len, requires_top_origin ? 1 : 0) & 1);
+}
+
+uint32_t puffgrit_not_canonical(const uint8_t *bytes, size_t bytes_len, size_t levels, size_t *offset) {
+    FRAME(frame, 16);
+    const uint64_t at = FRAME_AT(frame);
+    uint32_t result;
+    st64(at, *offset);
+    result = code_puffgrit_not_canonical(ADDRESS(bytes), bytes_len, levels, at);
+    *offset = (size_t)ld64(at);
+    return result;
 }
 
 puffgrit_bool puffgrit_auth_parts(const uint8_t *bytes, size_t bytes_len, puffgrit_auth_data *parts) {

@@ -1,5 +1,5 @@
 -- Bytes that are appended one after the other.
-use Rattle.std.proofs.Common.{◌≡◌, ◌∙◌, ℕ, ◌+◌, ◌-◌, ◌≤◌, arith, List, ◌++◌, length, take, drop, ap, sym, subst, append_assoc, take_at, drop_at, drop-drop, length-append, length-drop, length-take-le}
+use Rattle.std.proofs.Common.{◌≡◌, ◌∙◌, ℕ, ◌+◌, ◌≤◌, arith, List, ◌++◌, length, take, drop, ap, sym, append_assoc, take_at, drop_at, drop-drop, length-append, length-drop, length-take-le}
 use Rattle.passkey_view_c.specs.Writer.{Appended}
 
 -- what precedes the rest of the buffer

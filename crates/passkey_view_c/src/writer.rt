@@ -159,7 +159,7 @@ pub extern "C" fn puffgrit_write_text(out: &mut [u8], len: &mut usize, text: &[u
 pub extern "C" fn puffgrit_write_bool(out: &mut [u8], len: &mut usize, value: bool) -> bool
     ensures { Puts (written (boolean value)) out.old len.old out.new len.new result }
 {
-    put(out, len, &[if value { 245 } else { 244 }])
+    put(out, len, if value { b"\xf5" } else { b"\xf4" })
 }
 
 /// Appends null (major type 7), as `puffgrit_write_map` does.
@@ -167,7 +167,7 @@ pub extern "C" fn puffgrit_write_bool(out: &mut [u8], len: &mut usize, value: bo
 pub extern "C" fn puffgrit_write_null(out: &mut [u8], len: &mut usize) -> bool
     ensures { Puts (written null) out.old len.old out.new len.new result }
 {
-    put(out, len, &[246])
+    put(out, len, b"\xf6")
 }
 
 /// Appends a data item that is encoded, such as a COSE key, as `puffgrit_write_map` does. Fails, too, if the
