@@ -1,9 +1,12 @@
 -- The values of an input are encoded as the input is.
-use Rattle.std.proofs.Common.{◌≡◌, ◌∙◌, ℕ, ◌≤◌, false, true, List, [], length, Some, Ok, sym, ap, subst, append-nil}
+use Rattle.std.proofs.Common.{◌≡◌, ◌∙◌, ℕ, ◌≤◌, false, true, List, [], length, Some, Ok, Result, sym, ap, subst, append-nil}
 use Rattle.json.specs.Json.{Json}
+use Rattle.passkey_attestation.specs.Formats.{format_name}
+use Rattle.passkey_attestation.specs.Statement.{read_statement}
 use Rattle.passkey_catalogue.specs.Rewriting.{Encodes}
 use Rattle.passkey_catalogue.specs.Values.{EncodesValues, ShowsValues, value_item}
 use Rattle.passkey_catalogue.specs.declared.form.Form.{Form}
+use Rattle.passkey_catalogue.specs.declared.form.Form.TheVariants as form
 use Rattle.passkey_cbor.specs.Depth.{depth}
 use Rattle.passkey_cbor.specs.Item.{Item}
 use Rattle.passkey_cbor.specs.Laws.{AtMostOneLeadingItem, WrittenIsLeadingItem}
@@ -12,6 +15,8 @@ use Rattle.passkey_cbor.specs.Writable.{IsWritable}
 use Rattle.passkey_cbor.specs.Written.{written}
 use Rattle.passkey_cbor_text.specs.values.Exact.{IsJsonOf}
 use Rattle.passkey_cbor_text.specs.values.NoItem.{Read}
+use Rattle.passkey_cose.specs.KeyReading.{read_key}
+use Rattle.passkey_kinds.specs.Message.{Begins}
 use Rattle.passkey_kinds.specs.Record.{read_item}
 use Rattle.passkey_rewrite.specs.Definition.{Definition, authenticator, item, message, other}
 
@@ -40,6 +45,16 @@ module _ (once : AtMostOneLeadingItem) (law : WrittenIsLeadingItem) (d : Definit
   is_front j len front = same ∙ front_again once law e.front j len e.writable
       (subst (λ (x : Item). depth x ≤ max_depth) same s.begins.shallow) front
 
+  -- what decodes the data item that begins its encoding, decodes the one that begins the input
+  begins_again : {P E : Type 0} (read : Item → Result P E) (p : P) → Begins (written e.front) (λ i len. read i ≡ Ok p)
+      → Begins bytes (λ i len. read i ≡ Ok p)
+  begins_again read p b = record {
+    item = s.front;
+    len = n;
+    front = s.begins;
+    holds = ap read (is_front b.item b.len b.front) ∙ b.holds;
+  }
+
 pub encoded_as_input : AtMostOneLeadingItem → WrittenIsLeadingItem → (d : Definition Form) (bytes text encoding : List ℕ)
     (n : ℕ) → ShowsValues d bytes text n → EncodesValues d text encoding → Encodes d bytes encoding n
 encoded_as_input once law item bytes text encoding n s e =
@@ -56,18 +71,20 @@ encoded_as_input once law authenticator bytes text encoding n s e =
     let no : false ≡ true = s.accepted in absurd cc
 encoded_as_input once law (message t tree) bytes text encoding n s e =
     let r = e.encodes.0 in
-    let b = r.begins in (
-      record {
-        parts = r.parts;
-        begins = record {
-          item = s.front;
-          len = n;
-          front = s.begins;
-          holds = ap (read_item t) (is_front once law (message t tree) bytes text encoding n s e b.item b.len b.front) ∙ b.holds;
-        };
-        rewritten = r.rewritten;
-      },
-      (s.front, s.begins),
-    )
-encoded_as_input once law (other f) bytes text encoding n s e =
+    let begins = begins_again once law (message t tree) bytes text encoding n s e (read_item t) r.parts r.begins in
+    (record { parts = r.parts; begins = begins; rewritten = r.rewritten }, (s.front, s.begins))
+encoded_as_input once law (other form.Key) bytes text encoding n s e =
+    let r = e.encodes.0 in
+    let begins = begins_again once law (other form.Key) bytes text encoding n s e read_key r.parts r.begins in
+    (record { parts = r.parts; begins = begins; rewritten = r.rewritten }, (s.front, s.begins))
+encoded_as_input once law (other (form.Statement f)) bytes text encoding n s e =
+    let r = e.encodes.0 in
+    let read = read_statement (format_name f) in
+    let begins = begins_again once law (other (form.Statement f)) bytes text encoding n s e read r.parts r.begins in
+    (record { parts = r.parts; begins = begins; rewritten = r.rewritten }, (s.front, s.begins))
+encoded_as_input once law (other form.CertInfo) bytes text encoding n s e =
+    let no : false ≡ true = s.accepted in absurd cc
+encoded_as_input once law (other form.PubArea) bytes text encoding n s e =
+    let no : false ≡ true = s.accepted in absurd cc
+encoded_as_input once law (other (form.Json k)) bytes text encoding n s e =
     let no : false ≡ true = s.accepted in absurd cc

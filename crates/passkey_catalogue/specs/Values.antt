@@ -3,9 +3,12 @@ use Rattle.std.specs.Prelude.{◌≡◌, ◌⊎◌, ℕ, Bool, true, false, List
 use Rattle.json.specs.Json.{Json, document}
 use Rattle.json.specs.declared.error.Error.{Error}
 use Rattle.json.specs.declared.error.Error.TheVariants as error
+use Rattle.passkey_attestation.specs.Formats.{format_name}
+use Rattle.passkey_attestation.specs.Statement.{read_statement}
 use Rattle.passkey_catalogue.specs.Catalogue.{definition}
 use Rattle.passkey_catalogue.specs.Rewriting.{Encodes, IsRefusal}
 use Rattle.passkey_catalogue.specs.declared.form.Form.{Form}
+use Rattle.passkey_catalogue.specs.declared.form.Form.TheVariants as form
 use Rattle.passkey_catalogue.specs.declared.json_values.ValuesFault.{ValuesFault}
 use Rattle.passkey_catalogue.specs.declared.json_values.ValuesFault.TheVariants as fault
 use Rattle.passkey_catalogue.specs.declared.kind.Kind.{Kind}
@@ -20,6 +23,7 @@ use Rattle.passkey_cbor_text.specs.declared.values.no_item.NoItem.{NoItem}
 use Rattle.passkey_cbor_text.specs.values.Exact.{IsJsonOf}
 use Rattle.passkey_cbor_text.specs.values.JsonItem.{leaf_item}
 use Rattle.passkey_cbor_text.specs.values.NoItem.{Read, no_item_of}
+use Rattle.passkey_cose.specs.KeyReading.{read_key}
 use Rattle.passkey_kinds.specs.Record.{read_item}
 use Rattle.passkey_kinds.specs.RecordReading.{shape_of}
 use Rattle.passkey_render.specs.NoItemText.{no_item_text}
@@ -30,12 +34,18 @@ use Rattle.passkey_rewrite.specs.declared.fault.RunFault.TheVariants as run
 
 -- ---- what JSON values are
 
--- whether inputs that are decoded so have JSON values: data items and messages
+-- whether inputs of this form are data items: keys and attestation statements
+abbrev pub is_item : Form → Bool
+is_item form.Key = true
+is_item (form.Statement f) = true
+is_item _ = false
+
+-- whether inputs that are decoded so have JSON values: data items, messages, keys and attestation statements
 abbrev pub has_values : Definition Form → Bool
 has_values item = true
 has_values authenticator = false
 has_values (message t tree) = true
-has_values (other f) = false
+has_values (other f) = is_item f
 
 -- the data item that a JSON value is: by a message's tables, or with nothing known of it
 abbrev pub value_item : Definition Form → Json → Read Item
@@ -44,12 +54,18 @@ value_item authenticator j = leaf_item Text j
 value_item (message t tree) j = json_item (shape_of t) j
 value_item (other f) j = leaf_item Text j
 
+-- whether the data item is a key, or an attestation statement of this format
+abbrev pub is_form : Form → Item → Bool
+is_form form.Key i = is_ok (read_key i)
+is_form (form.Statement f) i = is_ok (read_statement (format_name f) i)
+is_form _ i = false
+
 -- whether the data item is decoded so
 abbrev pub is_accepted : Definition Form → Item → Bool
 is_accepted item i = true
 is_accepted authenticator i = false
 is_accepted (message t tree) i = is_ok (read_item t i)
-is_accepted (other f) i = false
+is_accepted (other f) i = is_form f i
 
 -- ---- the values of an input
 

@@ -1,24 +1,36 @@
 //! Data items and messages as JSON values, from which they are read back, and encoded from them.
-ghost use Rattle.std.specs.Prelude.{◌≡◌, true, IfOk, IfErr, Ok, is_ok, string_bytes};
+ghost use Rattle.std.specs.Prelude.{◌≡◌, ◌≤◌, true, IfOk, IfErr, Ok, is_ok, string_bytes};
 ghost use Rattle.json.specs.Value.{value_view};
+ghost use Rattle.passkey_attestation.specs.Formats.{format_name};
+ghost use Rattle.passkey_attestation.specs.Statement.{read_statement};
 ghost use Rattle.passkey_catalogue.specs.Catalogue.{definition};
+ghost use Rattle.passkey_catalogue.specs.Rewriting.{IsKeyRefusal, IsStatementRefusal};
 ghost use Rattle.passkey_catalogue.specs.Values.{EncodesValues, IsNoItem, ReadsValues, RefusesEncoding, RefusesJson};
 ghost use Rattle.passkey_catalogue.specs.Values.{RefusesText, RefusesValues, ShowsValues, has_values, json_fault, value_item};
 ghost use Rattle.passkey_catalogue.specs.declared.json_values.ValuesFault.TheVariants.{Run as Ran};
-ghost use Rattle.passkey_cbor.specs.LeadingItem.{IsLeadingItem};
+ghost use Rattle.passkey_catalogue.specs.declared.form.Form.TheVariants.{Key as a_key, Statement as a_statement};
+ghost use Rattle.passkey_cbor.specs.Depth.{depth};
+ghost use Rattle.passkey_cbor.specs.LeadingItem.{IsLeadingItem, max_depth};
 ghost use Rattle.passkey_cbor.specs.View.{item_of};
+ghost use Rattle.passkey_cbor_text.specs.declared.values.leaf.StringForm.TheVariants.{Text as as_text};
+ghost use Rattle.passkey_cbor_text.specs.values.Exact.{IsJsonOf};
+ghost use Rattle.passkey_cbor_text.specs.values.JsonItem.{leaf_item};
+ghost use Rattle.passkey_cose.specs.KeyReading.{read_key};
 ghost use Rattle.passkey_kinds.specs.Record.{read_item};
-ghost use Rattle.passkey_rewrite.specs.Definition.{item, message};
+ghost use Rattle.passkey_rewrite.specs.Definition.{item, message, other};
 ghost use Rattle.passkey_rewrite.specs.Rewriting.{IsMessageRefusal};
 ghost use Rattle.passkey_rewrite.specs.declared.fault.RunFault.TheVariants.{OutOfMemory as NoMemory};
 
 use crate::form::Form;
 use crate::kind::Kind;
 use crate::rewriting::encode;
+use crate::statement::statement_from;
 use crate::visiting::visit;
 use json::{Error, Scratch, Value as Json};
+use passkey_attestation::AttestationFormat;
 use passkey_cbor::{CborError, Value};
 use passkey_cbor_text::values::{ItemFault, NoItem, StringForm, item_from_json, json_from_item};
+use passkey_cose::CoseKey;
 use passkey_kinds::{Fault, Message};
 use passkey_memory::OutOfMemory;
 use passkey_render::{json_from_message_item, no_item_text, typed_item_from_json};
@@ -28,8 +40,8 @@ use std::alloc::Global;
 /// Why an input has no JSON values, or JSON values have no encoding.
 #[derive(Debug, Drop)]
 pub enum ValuesFault {
-    /// Inputs of the kind have no values so far. Data items and messages have some; authenticator data,
-    /// COSE keys, attestation statements, structures of a TPM and JSON texts have none.
+    /// Inputs of the kind have no values so far. Data items, messages, COSE keys and attestation statements
+    /// have some; authenticator data, structures of a TPM and JSON texts have none.
     NoValues,
     /// What in the JSON is no data item; and where it is and what is wanted there, as a person reads it.
     NoItem(NoItem, String),
@@ -71,6 +83,47 @@ fn accepted_front<M: Message>(alloc: Global, input: &[u8]) -> Result<(Value, usi
     }
 }
 
+/// Returns the data item that leads the bytes, if it is a COSE key, with its length.
+fn key_front(alloc: Global, input: &[u8]) -> Result<(Value, usize), RunFault>
+    ensures ok { IfOk result (λ front. IsLeadingItem input.now (item_of front.0) front.1
+        × (is_ok (read_key (item_of front.0)) ≡ true)) }
+    ensures err { IfErr result (IsKeyRefusal input.now) }
+{
+    let (value, len) = Value::from_slice(alloc, input)?;
+    match CoseKey::from_value(alloc, &value) {
+        Ok(_) => Ok((value, len)),
+        Err(error) => Err(RunFault::from(error)),
+    }
+}
+
+/// Returns the data item that leads the bytes, if it is a statement of this format, with its length.
+fn statement_front(
+    alloc: Global,
+    format: AttestationFormat,
+    input: &[u8],
+) -> Result<(Value, usize), RunFault>
+    ensures ok { IfOk result (λ front. IsLeadingItem input.now (item_of front.0) front.1
+        × (is_ok (read_statement (format_name format) (item_of front.0)) ≡ true)) }
+    ensures err { IfErr result (IsStatementRefusal format input.now) }
+{
+    let (value, len) = Value::from_slice(alloc, input)?;
+    match statement_from(alloc, format, &value) {
+        Ok(_) => Ok((value, len)),
+        Err(fault) => Err(fault),
+    }
+}
+
+/// Returns the JSON of a data item of which nothing is known, and its length, which is given.
+fn plain_json(alloc: Global, value: Value, len: usize) -> Result<(String, usize), OutOfMemory>
+    requires { depth (item_of value) ≤ max_depth }
+    ensures { IfOk result (λ made. IsJsonOf (leaf_item as_text) (item_of value) (string_bytes made.0)
+        × (made.1 ≡ len)) }
+{
+    let text = json_from_item(alloc, StringForm::Text, &value);
+    drop(value);
+    Ok((text?, len))
+}
+
 fn item_values(alloc: Global, input: &[u8]) -> Result<(String, usize), ValuesFault>
     ensures ok { IfOk result (λ made. ShowsValues item input.now (string_bytes made.0) made.1) }
     ensures err { IfErr result (RefusesValues item input.now) }
@@ -79,9 +132,28 @@ fn item_values(alloc: Global, input: &[u8]) -> Result<(String, usize), ValuesFau
         Ok(front) => front,
         Err(error) => return Err(ValuesFault::Run(RunFault::from(error))),
     };
-    let text = json_from_item(alloc, StringForm::Text, &value);
-    drop(value);
-    Ok((text?, len))
+    Ok(plain_json(alloc, value, len)?)
+}
+
+fn key_values(alloc: Global, input: &[u8]) -> Result<(String, usize), ValuesFault>
+    ensures ok { IfOk result (λ made. ShowsValues (other a_key) input.now (string_bytes made.0) made.1) }
+    ensures err { IfErr result (RefusesValues (other a_key) input.now) }
+{
+    let (value, len) = key_front(alloc, input)?;
+    Ok(plain_json(alloc, value, len)?)
+}
+
+fn statement_values(
+    alloc: Global,
+    format: AttestationFormat,
+    input: &[u8],
+) -> Result<(String, usize), ValuesFault>
+    ensures ok { IfOk result
+        (λ made. ShowsValues (other (a_statement format)) input.now (string_bytes made.0) made.1) }
+    ensures err { IfErr result (RefusesValues (other (a_statement format)) input.now) }
+{
+    let (value, len) = statement_front(alloc, format, input)?;
+    Ok(plain_json(alloc, value, len)?)
 }
 
 fn message_values<M: Message>(alloc: Global, input: &[u8]) -> Result<(String, usize), ValuesFault>
@@ -122,8 +194,12 @@ impl<'a> Visitor for MakingValues<'a> {
         message_values::<M>(self.alloc, self.input)
     }
 
-    fn visit_other(self, _what: Form) -> Result<(String, usize), ValuesFault> {
-        Err(ValuesFault::NoValues)
+    fn visit_other(self, what: Form) -> Result<(String, usize), ValuesFault> {
+        match what {
+            Form::Key => key_values(self.alloc, self.input),
+            Form::Statement(format) => statement_values(self.alloc, format, self.input),
+            _ => Err(ValuesFault::NoValues),
+        }
     }
 }
 
@@ -151,6 +227,17 @@ fn no_item(alloc: Global, json: &Json<'_>, fault: ItemFault) -> ValuesFault
     }
 }
 
+/// Returns the data item that the JSON value is, with nothing known of it.
+fn plain_item(alloc: Global, json: &Json<'_>) -> Result<Value, ValuesFault>
+    ensures ok { IfOk result (λ i. leaf_item as_text (value_view json.now) ≡ Ok (item_of i)) }
+    ensures err { IfErr result (RefusesJson item (value_view json.now)) }
+{
+    match item_from_json(alloc, StringForm::Text, json) {
+        Ok(value) => Ok(value),
+        Err(fault) => Err(no_item(alloc, json, fault)),
+    }
+}
+
 /// The data item that a JSON value is, is made.
 #[derive(Drop)]
 struct ReadingValues<'a> {
@@ -168,10 +255,7 @@ impl<'a> Visitor for ReadingValues<'a> {
         × IfErr result (RefusesJson d (value_view v.json)) };
 
     fn visit_item(self) -> Result<Value, ValuesFault> {
-        match item_from_json(self.alloc, StringForm::Text, &self.json) {
-            Ok(value) => Ok(value),
-            Err(fault) => Err(no_item(self.alloc, &self.json, fault)),
-        }
+        plain_item(self.alloc, &self.json)
     }
 
     fn visit_data(self) -> Result<Value, ValuesFault> {
@@ -185,8 +269,11 @@ impl<'a> Visitor for ReadingValues<'a> {
         }
     }
 
-    fn visit_other(self, _what: Form) -> Result<Value, ValuesFault> {
-        Err(ValuesFault::NoValues)
+    fn visit_other(self, what: Form) -> Result<Value, ValuesFault> {
+        match what {
+            Form::Key | Form::Statement(_) => plain_item(self.alloc, &self.json),
+            _ => Err(ValuesFault::NoValues),
+        }
     }
 }
 

@@ -15,7 +15,7 @@ use std::alloc::Global;
 
 /// Decodes a statement of this format. The fault of a statement that isn't one of its map is
 /// `UnexpectedItem`.
-fn statement_from(
+pub(crate) fn statement_from(
     alloc: Global,
     format: AttestationFormat,
     value: &Value,
