@@ -7,19 +7,22 @@ system's libpuffgrit.so.3. A call lets other threads run, so its bytes have to b
 
 from __future__ import annotations
 
+import base64
 import ctypes
 import json
 import operator
+import struct
+import uuid
 from dataclasses import dataclass
 from typing import Any, Callable, Final, Iterator
 
 from . import _c
-from ._kinds import DECODED, EXPLAINED, KINDS
+from ._kinds import DECODED, EXACT, EXPLAINED, KINDS
 
 __all__ = [
-    "ARRAY", "BYTES", "DECODED", "EXPLAINED", "FLOAT", "INDEFINITE", "KINDS", "MAP", "NEGATIVE", "SIMPLE", "TAG", "TEXT", "UNSIGNED",
-    "AuthData", "Fault", "Item", "auth_parts", "decode", "decode_front", "elements", "explain", "is_canonical", "is_client_data", "item_at",
-    "item_len", "member", "rewrite", "rewrite_front", "version",
+    "ARRAY", "BYTES", "DECODED", "EXACT", "EXPLAINED", "FLOAT", "INDEFINITE", "KINDS", "MAP", "NEGATIVE", "SIMPLE", "TAG", "TEXT",
+    "UNSIGNED", "AuthData", "Fault", "Item", "auth_parts", "decode", "decode_front", "elements", "encode", "explain", "is_canonical",
+    "is_client_data", "item_at", "item_len", "member", "rewrite", "rewrite_front", "version",
 ]  # fmt: skip
 
 # The types of data items: the major types (RFC 8949, section 3.1), and one for floats.
@@ -48,6 +51,7 @@ _FAULTS = {
     24: "UnexpectedItem",
     25: "Float",
     26: "BadJson",
+    27: "NoItem",
 }
 
 
@@ -74,7 +78,7 @@ class Fault(ValueError):
 
     def __init__(self, name: str, member: int | None) -> None:
         super().__init__(name if member is None else f"{name}({member})")
-        #: Where in the input and why, as "user.id: a byte string is wanted (offset 58, length 10)".
+        #: Where in the input and why, as "user.id: a byte string is wanted (offset 58, length 10)"; of `encode`, without an offset.
         self.explanation: str | None = None
         #: The offset of what is refused: of a data item or a map key, or of where the bytes aren't well-formed; 0 of a JSON text.
         self.offset: int | None = None
@@ -263,21 +267,133 @@ def rewrite_front(kind: str, data: bytes) -> tuple[bytes, int]:
     return _written(_library.puffgrit_rewrite, kind, data)
 
 
-def decode(kind: str, data: bytes) -> Any:
+def decode(kind: str, data: bytes, *, exact: bool = False) -> Any:
     """What is in the data, which is of the kind (one of `DECODED`): a message, a key, authenticator data or a record
     as a dictionary.
 
     Members have their names, also those of authenticator data, keys and attestation statements inside a message; byte strings are
     base64url without padding, AAGUIDs are UUIDs, and algorithms and flags have their names. Raises what `rewrite` raises.
+
+    If it is exact, of a kind of `EXACT`, nothing is lost, and `encode` makes what `rewrite` makes of the data: byte strings are `bytes`,
+    AAGUIDs `uuid.UUID`, integers `int`, floats of 64 bits `float`; members of a message's tables have their names, and other keys are
+    `int`, `str` or `bytes`. What Python has no value for is an `Item` of its own bytes: a tag, a float of fewer bits, a key that is
+    an array, a map whose keys aren't in CTAP2's order or that is there with a key twice, a message that has a name where its table has a
+    number, and what is inside 60 arrays and maps.
     """
-    return decode_front(kind, data)[0]
+    return decode_front(kind, data, exact=exact)[0]
 
 
-def decode_front(kind: str, data: bytes) -> tuple[Any, int]:
+def decode_front(kind: str, data: bytes, *, exact: bool = False) -> tuple[Any, int]:
     """What `decode` returns, and how many bytes of the data were decoded."""
-    _number(kind, DECODED)
-    text, read = _written(_library.puffgrit_json, kind, data)
-    return json.loads(text), read
+    _number(kind, EXACT if exact else DECODED)
+    text, read = _written(_library.puffgrit_values if exact else _library.puffgrit_json, kind, data)
+    told = json.loads(text)
+    return (_value(told, _whole(rewrite("cbor", data[:read]))) if exact else told), read
+
+
+def _whole(encoding: bytes) -> Item:
+    """The data item with this encoding."""
+    found = item_at(encoding)
+    assert found is not None
+    return found
+
+
+def _value(told: Any, it: Item) -> Any:
+    """The value of an item, of which the JSON of puffgrit_values tells the names of members, and what is escaped as a whole."""
+    if it.kind in (UNSIGNED, NEGATIVE):
+        return it.integer
+    if it.kind == TEXT:
+        return it.string.decode()
+    if it.kind == BYTES:
+        # an AAGUID's UUID has 36 characters, and 16 bytes in base64url 22
+        return uuid.UUID(bytes=it.string) if len(it.string) == 16 and len(told) == 36 else it.string
+    if it.kind == ARRAY and isinstance(told, list):
+        return [_value(*pair) for pair in zip(told, it)]
+    if it.kind == MAP and told.keys() not in ({"$map"}, {"$cbor"}):
+        parts = iter(it)
+        return {_key(name, next(parts)): _value(inner, next(parts)) for name, inner in told.items()}
+    if it.kind == SIMPLE and not isinstance(told, dict):
+        return told
+    if it.kind == FLOAT and it.end - it.start == 9:
+        number = struct.unpack(">d", it.data[it.content - 8 : it.content])[0]
+        if struct.pack(">d", number) == it.data[it.content - 8 : it.content]:
+            return number
+    return _whole(it.data[it.start : it.end])
+
+
+def _key(name: str, key: Item) -> Any:
+    """The key of a member with this name in the JSON of puffgrit_values."""
+    if key.kind in (UNSIGNED, NEGATIVE) and not name.startswith("#"):
+        return name
+    return _value("", key) if key.kind in (UNSIGNED, NEGATIVE, BYTES, TEXT) else _whole(key.data[key.start : key.end])
+
+
+def encode(kind: str, value: Any) -> bytes:
+    """The encoding of a data item or a message (a kind of `EXACT`) from its values, as `rewrite` writes it, without unknown members.
+
+    A value is `None`, a `bool`, `int`, `float` (of 64 bits), `str`, `bytes`, `uuid.UUID`, list, tuple or dictionary of values, or an
+    `Item`, which is taken as it is encoded. A key is a member's name or another text as `str`, an `int`, `bytes` or an `Item`, and
+    the keys of a map may be in any order. Where a message has keys that are byte strings, a `str` is base64url.
+
+    Raises `Fault` if the kind rejects the value, with the member and an explanation, as "user.id: a byte string is wanted"; `NoItem` if
+    it is no data item: an integer needs more than 64 bits, or a key is there twice. Raises `TypeError` for a value of another type,
+    `UnicodeEncodeError` for a `str` with a lone surrogate, and `MemoryError`.
+    """
+    number, text = _number(kind, EXACT), _json(value).encode()
+    room, why_room = len(text) + 256, 1024
+    length, size = ctypes.c_size_t(), ctypes.c_size_t()
+    while True:
+        out, why = ctypes.create_string_buffer(room), ctypes.create_string_buffer(why_room)
+        status = _library.puffgrit_encode(number, text, len(text), out, room, ctypes.byref(length), why, why_room, ctypes.byref(size))
+        if status == 0:
+            return out.raw[: length.value]
+        if status == 2:
+            raise MemoryError("puffgrit_encode")
+        if status == 1:
+            room = length.value
+        elif size.value > why_room:
+            why_room = size.value
+        else:
+            break
+    fault = _fault(status)
+    fault.explanation = why.raw[: size.value].decode() or None
+    raise fault
+
+
+def _json(value: Any) -> str:
+    """The JSON of puffgrit_encode that is the value, whatever its member's type: texts and byte strings are escaped."""
+    if value is None:
+        return "null"
+    if isinstance(value, bool):
+        return "true" if value else "false"
+    if isinstance(value, int):
+        return format(value, "d")
+    if isinstance(value, str):
+        return f'{{"$text":{json.dumps(value, ensure_ascii=False)}}}'
+    if isinstance(value, uuid.UUID):
+        value = value.bytes
+    if isinstance(value, bytes):
+        return f'{{"$bytes":"{base64.urlsafe_b64encode(value).decode()}"}}'
+    if isinstance(value, float):
+        return f'{{"$cbor":"{struct.pack(">Bd", 0xFB, value).hex()}"}}'
+    if isinstance(value, Item):
+        return f'{{"$cbor":"{value.data[value.start : value.end].hex()}"}}'
+    if isinstance(value, (list, tuple)):
+        return f"[{','.join(_json(it) for it in value)}]"
+    if isinstance(value, dict):
+        return f"{{{','.join(f'{_name(key)}:{_json(it)}' for key, it in value.items())}}}"
+    raise TypeError(f"a value of puffgrit isn't of the type {type(value).__name__}")
+
+
+def _name(key: Any) -> str:
+    """The name that a key has in the JSON of puffgrit_encode, quoted."""
+    if isinstance(key, str) and not key.startswith(("$", "#")):
+        return json.dumps(key, ensure_ascii=False)
+    if isinstance(key, int) and not isinstance(key, bool):
+        return f'"#{key:d}"'
+    if isinstance(key, (str, bytes, Item)):
+        return f'"${encode("cbor", key).hex()}"'
+    raise TypeError(f"a key of puffgrit isn't of the type {type(key).__name__}")
 
 
 def explain(kind: str, data: bytes) -> Fault | None:

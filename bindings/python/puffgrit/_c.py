@@ -72,6 +72,8 @@ def load() -> ctypes.CDLL:
         ("is_client_data", ctypes.c_bool, [*buffer * 5, ctypes.c_bool]),
         ("rewrite", ctypes.c_uint32, [*given, *output]),
         ("json", ctypes.c_uint32, [*given, *output]),
+        ("values", ctypes.c_uint32, [*given, *output]),
+        ("encode", ctypes.c_uint32, [ctypes.c_uint32, *buffer, *output, *output]),
         ("explain", ctypes.c_uint32, [*given, ctypes.POINTER(Refusal), *output]),
     ]:
         call = getattr(library, f"puffgrit_{name}")

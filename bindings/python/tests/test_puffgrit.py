@@ -2,6 +2,7 @@
 
 import os
 import unittest
+import uuid
 from concurrent.futures import ThreadPoolExecutor
 from pathlib import Path
 from unittest import mock
@@ -10,6 +11,10 @@ import puffgrit
 from puffgrit import _c
 
 ROOT = Path(__file__).resolve().parents[3]
+
+
+def item(given):
+    return puffgrit.item_at(bytes.fromhex(given))
 
 
 class Puffgrit(unittest.TestCase):
@@ -132,6 +137,89 @@ class Puffgrit(unittest.TestCase):
         self.assertEqual(puffgrit.explain("client-data", b"[]").explanation, "an object is wanted")
         self.assertEqual(puffgrit.explain("client-data", "{\"ü\"".encode()).name, "BadJson")
         self.assertIsNone(puffgrit.explain("request", b'{"publicKey":{"challenge":"AQ"}}'))
+
+    def test_encoding(self):
+        # CTAP 2.2, sections 6.2.1, 6.4 and 6.5.5; RFC 8949, section 3 and appendix A; RFC 9052, section 7
+        key = {1: 2, 3: -25, -1: 1, -2: b"\1", -3: b"\2"}
+        for kind, value, made in [
+            ("pin-request", {"rpId": "a", "permissions": 3, "subCommand": 9}, "a302090903" "0a6161"),
+            ("pin-request", {"keyAgreement": key, 2: 5}, "a2020503a5010203381820012141012241" "02"),
+            ("ctap-ga-request", {"rpId": "a", "clientDataHash": bytes(32), "options": {"up": False}}, f"a3016161025820{'00' * 32}05a1627570f4"),
+            ("info", {"versions": ("FIDO_2_0",), "aaguid": uuid.UUID(int=1)}, f"a20181684649444f5f325f300350{'00' * 15}01"),
+            ("cbor", [True, False, None, "ü", -(2**64), 2**64 - 1, 1.5], "87f5f4f662c3bc3bffffffffffffffff1bfffffffffffffffffb3ff8000000000000"),
+            ("cbor", {"b": 1, "a": [], 24: {}, -1: b"", b"": ""}, "a51818a0204040606161806162" "01"),
+            ("cbor", {"$bytes": "AQ"}, "a16624627974657362" "4151"),
+            ("cbor", {"$cbor": {"#1": 1, 1: 2, "": 3, "$": 4}}, "a1652463626f72a4010260036124046223" "3101"),
+            ("cbor", [puffgrit.item_at(bytes.fromhex("00c11a514b67b0"), 1)], "81c11a514b67b0"),
+            ("cbor", {puffgrit.item_at(bytes.fromhex("8101")): 0}, "a1810100"),
+        ]:
+            self.assertEqual(puffgrit.encode(kind, value).hex(), made)
+        for kind in ["auth", "cose-key", "att-none", "creation", "key"]:
+            self.assertRaisesRegex(ValueError, "no kind", puffgrit.encode, kind, {})
+        for value in [{1}, bytearray(), {True: 1}, {None: 1}, {1.0: 1}, {(1,): 1}, [object]]:
+            self.assertRaises(TypeError, puffgrit.encode, "cbor", value)
+        for value in ["\ud800", {"\ud800": 1}]:
+            self.assertRaises(UnicodeEncodeError, puffgrit.encode, "cbor", value)
+
+    def test_refused_encoding(self):
+        integer = f"an integer from {-(2**64)} to {2**64 - 1} is wanted"
+        inside = 1
+        for _ in range(200):
+            inside = [inside]
+        for kind, value, name, number, explanation in [
+            ("ctap-mc-request", {"user": {"id": "AQ"}}, "Refused", 3, "user.id: a byte string is wanted"),
+            ("pin-request", {"subCommand": 9, "rpId": b"a"}, "Refused", 10, "rpId: a text string is wanted"),
+            ("ctap-ga-request", {"rpId": "a", "clientDataHash": bytes(31)}, "Refused", 2, "clientDataHash: a byte string of 32 bytes is wanted"),
+            ("pin-request", {"subCommand": 1, 2: 1}, "Repeated", 2, "(key 1): member 2 is repeated"),
+            ("cbor", {"a": [0, {"$ü": 2**64}]}, "NoItem", None, f"a[1].$6324c3bc: {integer}"),
+            ("cbor", {"a": 1, puffgrit.item_at(b"\x61a"): 2}, "NoItem", None, "$6161: an earlier member has this key"),
+            ("cbor", {"ü" * 3000: 2**64}, "NoItem", None, f"{'ü' * 3000}: {integer}"),
+            ("cbor", inside, "BadJson", None, None),
+        ]:
+            with self.assertRaises(puffgrit.Fault) as caught:
+                puffgrit.encode(kind, value)
+            fault = caught.exception
+            self.assertEqual((fault.name, fault.member, fault.explanation, fault.offset), (name, number, explanation, None))
+
+    def test_exact_decoding(self):
+        info = {"versions": ["FIDO_2_0"], "aaguid": uuid.UUID(int=1), "algorithms": [{"alg": -7, "type": "public-key"}], 99: b"\0"}
+        given = f"a401816846494" f"44f5f325f300350{'00' * 15}010a81a263616c672664747970656a7075626c69632d6b65791863" "4100"
+        self.assertEqual(puffgrit.decode_front("info-23", bytes.fromhex(given + "ff"), exact=True), (info, len(given) // 2))
+        # RFC 8949, section 3 and appendix A: text in chunks, undefined, an integer below those of 64 bits, and keys of each kind
+        given = "a5" "01" "7f61616162ff" "20" "f7" "4100" "3bffffffffffffffff" "60" "fb3ff8000000000000" "622361" "a162246101"
+        value = {1: "ab", -1: None, b"\0": -(2**64), "": 1.5, "#a": {"$a": 1}}
+        self.assertEqual(puffgrit.decode("cbor", bytes.fromhex(given), exact=True), value)
+        # tags, floats of fewer bits, keys that aren't in order or that are there twice, keys that are none of Python's, and many levels
+        deep = item("81" * 40 + "00")
+        for _ in range(60):
+            deep = [deep]
+        for given, value in [
+            ("c11a514b67b0", item("c11a514b67b0")),
+            ("82f93e00fa3fc00000", [item("f93e00"), item("fa3fc00000")]),
+            ("81a202010100", [item("a202010100")]),
+            ("81a201000100", [item("a201000100")]),
+            ("a380018101f4f402", {item("80"): 1, item("8101"): False, item("f4"): 2}),
+            ("81" * 100 + "00", deep),
+        ]:
+            self.assertEqual(puffgrit.decode("cbor", bytes.fromhex(given), exact=True), value)
+            self.assertEqual(puffgrit.encode("cbor", value).hex(), given)
+        with self.assertRaises(puffgrit.Fault) as caught:
+            puffgrit.decode("pin-request", b"\xa0", exact=True)
+        self.assertEqual(caught.exception.name, "Missing")
+        for kind in ["auth", "cose-key", "request"]:
+            self.assertRaisesRegex(ValueError, "no kind", puffgrit.decode, kind, b"", exact=True)
+
+    def test_exact_rows(self):
+        # each input of crates/passkey_rows that is accepted comes back as its encoding
+        inputs, answers = [(ROOT / "crates/passkey_rows" / it).read_text(encoding="utf-8").split("\n") for it in ("stdin", "stdout")]
+        tried = set()
+        for row, answer in zip(inputs, answers):
+            kind, _, given = row.partition(" ")
+            if kind in puffgrit.EXACT and answer.startswith("0 "):
+                made = puffgrit.encode(kind, puffgrit.decode(kind, bytes.fromhex(given), exact=True))
+                self.assertEqual(made.hex(), answer[2:], row)
+                tried.add(kind)
+        self.assertEqual(tried, set(puffgrit.EXACT))
 
     def test_arguments(self):
         with self.assertRaises(TypeError):
