@@ -277,8 +277,8 @@ def decode(kind: str, data: bytes, *, exact: bool = False) -> Any:
     If it is exact, of a kind of `EXACT`, nothing is lost, and `encode` makes what `rewrite` makes of the data: byte strings are `bytes`,
     AAGUIDs `uuid.UUID`, integers `int`, floats of 64 bits `float`; members of a message's tables have their names, and other keys are
     `int`, `str` or `bytes`. What Python has no value for is an `Item` of its own bytes: a tag, a float of fewer bits, a key that is
-    an array, a map whose keys aren't in CTAP2's order or that is there with a key twice, a message that has a name where its table has a
-    number, and what is inside 60 arrays and maps.
+    an array, a map whose keys aren't in CTAP2's order or that has a key twice, a message that has a name where its table has a number,
+    and what is inside 60 arrays and maps.
     """
     return decode_front(kind, data, exact=exact)[0]
 
@@ -309,7 +309,8 @@ def _value(told: Any, it: Item) -> Any:
         return uuid.UUID(bytes=it.string) if len(it.string) == 16 and len(told) == 36 else it.string
     if it.kind == ARRAY and isinstance(told, list):
         return [_value(*pair) for pair in zip(told, it)]
-    if it.kind == MAP and told.keys() not in ({"$map"}, {"$cbor"}):
+    # an unknown member may be there twice, and then JSON has its name twice
+    if it.kind == MAP and told.keys() not in ({"$map"}, {"$cbor"}) and len(told) == it.number:
         parts = iter(it)
         return {_key(name, next(parts)): _value(inner, next(parts)) for name, inner in told.items()}
     if it.kind == SIMPLE and not isinstance(told, dict):

@@ -203,6 +203,10 @@ class Puffgrit(unittest.TestCase):
         ]:
             self.assertEqual(puffgrit.decode("cbor", bytes.fromhex(given), exact=True), value)
             self.assertEqual(puffgrit.encode("cbor", value).hex(), given)
+        # an unknown member that is there twice, and a name where there is a number
+        for given, made in [("a302011863011863" "02", "a10201"), ("a16a737562436f6d6d616e6401", "a10201")]:
+            value = puffgrit.decode("pin-request", bytes.fromhex(given), exact=True)
+            self.assertEqual((value, puffgrit.encode("pin-request", value).hex()), (item(given), made))
         with self.assertRaises(puffgrit.Fault) as caught:
             puffgrit.decode("pin-request", b"\xa0", exact=True)
         self.assertEqual(caught.exception.name, "Missing")
