@@ -336,9 +336,10 @@ def encode(kind: str, value: Any) -> bytes:
     `Item`, which is taken as it is encoded. A key is a member's name or another text as `str`, an `int`, `bytes` or an `Item`, and
     the keys of a map may be in any order. Where a message has keys that are byte strings, a `str` is base64url.
 
-    Raises `Fault` if the kind rejects the value, with the member and an explanation, as "user.id: a byte string is wanted"; `NoItem` if
-    it is no data item: an integer needs more than 64 bits, or a key is there twice. Raises `TypeError` for a value of another type,
-    `UnicodeEncodeError` for a `str` with a lone surrogate, and `MemoryError`.
+    Raises `Fault` if the kind rejects the value, with the member and an explanation, as "user.id: a byte string is wanted"; with `NoItem`
+    if it is no data item: an integer needs more than 64 bits, or a key is there twice; and with `BadJson` if a value is inside more
+    than 127 lists and dictionaries. Raises `TypeError` for a value of another type, `UnicodeEncodeError` for a `str` with a lone
+    surrogate, and `MemoryError`.
     """
     number, text = _number(kind, EXACT), _json(value).encode()
     room, why_room = len(text) + 256, 1024

@@ -163,9 +163,11 @@ class Puffgrit(unittest.TestCase):
 
     def test_refused_encoding(self):
         integer = f"an integer from {-(2**64)} to {2**64 - 1} is wanted"
-        inside = 1
-        for _ in range(200):
+        inside = "a"
+        for _ in range(127):
             inside = [inside]
+        self.assertEqual(puffgrit.encode("cbor", inside), b"\x81" * 127 + b"aa")
+        inside = [[inside]]
         for kind, value, name, number, explanation in [
             ("ctap-mc-request", {"user": {"id": "AQ"}}, "Refused", 3, "user.id: a byte string is wanted"),
             ("pin-request", {"subCommand": 9, "rpId": b"a"}, "Refused", 10, "rpId: a text string is wanted"),
