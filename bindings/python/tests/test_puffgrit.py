@@ -8,7 +8,7 @@ from pathlib import Path
 from unittest import mock
 
 import puffgrit
-from puffgrit import _c
+from puffgrit import _c, messages
 
 ROOT = Path(__file__).resolve().parents[3]
 
@@ -214,6 +214,15 @@ class Puffgrit(unittest.TestCase):
         self.assertEqual(caught.exception.name, "Missing")
         for kind in ["auth", "cose-key", "request"]:
             self.assertRaisesRegex(ValueError, "no kind", puffgrit.decode, kind, b"", exact=True)
+
+    def test_types(self):
+        # the members of CTAP 2.2, sections 6.1 and 6.2, by their names
+        members = {"rpId": "a", "clientDataHash": bytes(32), "allowList": [], "extensions": {}, "options": {}}
+        members.update(pinUvAuthParam=b"", pinUvAuthProtocol=1)
+        decoded = puffgrit.decode("ctap-ga-request", puffgrit.encode("ctap-ga-request", members), exact=True)
+        self.assertEqual(decoded.keys(), messages.CtapGaRequest.__annotations__.keys())
+        types = [messages.CtapMcRequest.__annotations__[it] for it in ("clientDataHash", "rp", "pubKeyCredParams", "pinUvAuthProtocol")]
+        self.assertEqual(types, [bytes, messages.RpEntity, list[messages.CredentialParameters], int])
 
     def test_exact_rows(self):
         # each input of crates/passkey_rows that is accepted comes back as its encoding
