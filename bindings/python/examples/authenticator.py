@@ -86,8 +86,12 @@ class Protocol:
 
     def secret(self, key):
         """The keys that authenticate and encrypt, shared with the owner of this COSE key."""
-        x, y = (int.from_bytes(key[it], "big") for it in (-2, -3))
-        z = self.private.exchange(ec.ECDH(), ec.EllipticCurvePublicNumbers(x, y, ec.SECP256R1()).public_key())
+        want(isinstance(key, dict) and all(isinstance(key.get(it), bytes) for it in (-2, -3)), Status.INVALID_PARAMETER)
+        try:
+            public = ec.EllipticCurvePublicNumbers(*(int.from_bytes(key[it], "big") for it in (-2, -3)), ec.SECP256R1()).public_key()
+        except ValueError:
+            raise Refused(Status.INVALID_PARAMETER) from None
+        z = self.private.exchange(ec.ECDH(), public)
         if self.number == 1:
             return [sha256(z).digest()] * 2
         return [HKDF(hashes.SHA256(), 32, bytes(32), info).derive(z) for info in (b"CTAP2 HMAC key", b"CTAP2 AES key")]
@@ -142,7 +146,8 @@ class Authenticator:
             want(request[0] in commands, Status.INVALID_COMMAND)
             command, (kind, answer) = commands[request[0]], KINDS[request[0]]
             want(puffgrit.is_canonical(request[1:]) if kind else len(request) == 1, Status.INVALID_CBOR)
-            told = command(puffgrit.decode(kind, request[1:], exact=True)) if kind else command()
+            # encoded again, a member has its number and its own type, and unknown ones are left out
+            told = command(puffgrit.decode(kind, puffgrit.rewrite(kind, request[1:]), exact=True)) if kind else command()
         except Refused as refused:
             return bytes([refused.status])
         except puffgrit.Fault as fault:
@@ -243,7 +248,7 @@ class Authenticator:
     def take_pin(self, padded):
         want(len(padded) == 64, Status.INVALID_PARAMETER)
         pin = padded.rstrip(b"\0")
-        want(4 <= len(pin.decode()) and len(pin) < 64, Status.PIN_POLICY_VIOLATION)
+        want(4 <= len(pin.decode(errors="replace")) and len(pin) < 64, Status.PIN_POLICY_VIOLATION)
         self.pin_hash, self.retries, self.misses = sha256(pin).digest()[:16], 8, 0
 
     def check_pin(self, protocol, key, pin_hash_enc):

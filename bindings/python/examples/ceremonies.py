@@ -141,7 +141,7 @@ def malformed(authenticator):
         (Status.MISSING_PARAMETER, "01a0 06a10202"),
         (Status.INVALID_CBOR, "06a202010101 06a1021801 06a1020100 0400"),
         (Status.INVALID_SUBCOMMAND, "06a10208"),
-        (Status.INVALID_PARAMETER, "06a201030202"),
+        (Status.INVALID_PARAMETER, "06a201030202 06a40101020503a00640 06a40101020503a2214022400640"),
     ]:
         for request in requests.split():
             assert authenticator.call(bytes.fromhex(request)) == bytes([status]), request
