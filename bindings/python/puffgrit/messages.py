@@ -43,34 +43,6 @@ class RequestOptions(TypedDict, total=False):
     uv: bool
 
 
-class CtapMcRequest(TypedDict, total=False):
-    """An authenticatorMakeCredential request by the standard alone (CTAP 2.2, section 6.1)."""
-
-    clientDataHash: bytes
-    rp: RpEntity
-    user: UserEntity
-    pubKeyCredParams: list[CredentialParameters]
-    excludeList: list[CredentialDescriptor]
-    extensions: Any
-    options: RequestOptions
-    pinUvAuthParam: bytes
-    pinUvAuthProtocol: int
-    enterpriseAttestation: int
-    attestationFormatsPreference: list[str]
-
-
-class CtapGaRequest(TypedDict, total=False):
-    """An authenticatorGetAssertion request by the standard alone (CTAP 2.2, section 6.2)."""
-
-    rpId: str
-    clientDataHash: bytes
-    allowList: list[CredentialDescriptor]
-    extensions: Any
-    options: RequestOptions
-    pinUvAuthParam: bytes
-    pinUvAuthProtocol: int
-
-
 class Info23(TypedDict, total=False):
     """An authenticatorGetInfo response with the members and names of CTAP 2.3."""
 
@@ -105,6 +77,34 @@ class Info23(TypedDict, total=False):
     maxPINLength: int
     encCredStoreState: bytes
     authenticatorConfigCommands: list[int]
+
+
+class CtapMcRequest(TypedDict, total=False):
+    """An authenticatorMakeCredential request by the standard alone (CTAP 2.2, section 6.1)."""
+
+    clientDataHash: bytes
+    rp: RpEntity
+    user: UserEntity
+    pubKeyCredParams: list[CredentialParameters]
+    excludeList: list[CredentialDescriptor]
+    extensions: Any
+    options: RequestOptions
+    pinUvAuthParam: bytes
+    pinUvAuthProtocol: int
+    enterpriseAttestation: int
+    attestationFormatsPreference: list[str]
+
+
+class CtapGaRequest(TypedDict, total=False):
+    """An authenticatorGetAssertion request by the standard alone (CTAP 2.2, section 6.2)."""
+
+    rpId: str
+    clientDataHash: bytes
+    allowList: list[CredentialDescriptor]
+    extensions: Any
+    options: RequestOptions
+    pinUvAuthParam: bytes
+    pinUvAuthProtocol: int
 
 
 class MakeCredentialRequest(TypedDict, total=False):
