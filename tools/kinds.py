@@ -62,8 +62,8 @@ def has_text(name):
 
 
 def has_values(name):
-    """Whether inputs of this kind are JSON values, exactly, and are encoded from them: data items and messages."""
-    return name in of_bytes() and has_text(name) and name not in ("auth", "cose-key")
+    """Whether inputs of this kind are JSON values, exactly, and are encoded from them: data items, messages, keys and statements."""
+    return name in of_bytes() and name not in ("auth", "tpm-cert-info", "tpm-pub-area")
 
 
 def found():
