@@ -21,8 +21,9 @@ DECODED = (
 #: The kinds of `encode`, and of `decode` if it is exact: data items and messages.
 EXACT = (
     "cbor mc-request mc-response ga-request ga-response info hmac-input pin-request pin-response bio-request bio-response cm-request "
-    "cm-response lb-request lb-response lb-entry cfg-request cfg-min-pin-length cfg-vendor info-23 mc-inputs mc-outputs mc-unsigned "
-    "ga-inputs ga-outputs ga-unsigned ctap-mc-request ctap-ga-request"
+    "cm-response lb-request lb-response lb-entry cfg-request cfg-min-pin-length cfg-vendor cose-key info-23 mc-inputs mc-outputs "
+    "mc-unsigned ga-inputs ga-outputs ga-unsigned att-packed att-tpm att-android-key att-android-safetynet att-fido-u2f att-none "
+    "att-apple att-compound ctap-mc-request ctap-ga-request"
 ).split()
 
 #: The kinds of `explain`: all.
