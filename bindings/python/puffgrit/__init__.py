@@ -17,12 +17,12 @@ from dataclasses import dataclass
 from typing import Any, Callable, Final, Iterator
 
 from . import _c
-from ._kinds import DECODED, EXACT, EXPLAINED, KINDS
+from ._kinds import DECODED, EXACT, EXPLAINED, KINDS, RULES
 
 __all__ = [
-    "ARRAY", "BYTES", "DECODED", "EXACT", "EXPLAINED", "FLOAT", "INDEFINITE", "KINDS", "MAP", "NEGATIVE", "SIMPLE", "TAG", "TEXT",
-    "UNSIGNED", "AuthData", "Fault", "Item", "auth_parts", "decode", "decode_front", "elements", "encode", "explain", "is_canonical",
-    "is_client_data", "item_at", "item_len", "member", "rewrite", "rewrite_front", "version",
+    "ARRAY", "BYTES", "DECODED", "EXACT", "EXPLAINED", "FLOAT", "INDEFINITE", "KINDS", "MAP", "NEGATIVE", "RULES", "SIMPLE", "TAG", "TEXT",
+    "UNSIGNED", "AuthData", "Fault", "Item", "NotCanonical", "auth_parts", "decode", "decode_front", "elements", "encode", "explain",
+    "is_canonical", "is_client_data", "item_at", "item_len", "member", "not_canonical", "rewrite", "rewrite_front", "version",
 ]  # fmt: skip
 
 # The types of data items: the major types (RFC 8949, section 3.1), and one for floats.
@@ -126,6 +126,16 @@ class Item:
 
 
 @dataclass(frozen=True)
+class NotCanonical:
+    """Where bytes leave CTAP2's canonical form (CTAP 2.2, section 8)."""
+
+    #: The rule that is broken there, one of `RULES`.
+    rule: str
+    #: The offset of the head that breaks it: of a key that isn't in its place, its own; of trailing bytes, that of the first.
+    offset: int
+
+
+@dataclass(frozen=True)
 class AuthData:
     """Authenticator data (WebAuthn Level 3, section 6.1)."""
 
@@ -157,6 +167,14 @@ def is_canonical(data: bytes) -> bool:
 
 def _seen(data: bytes, found: bool, it: _c.Item) -> Item | None:
     return Item(data, it.kind, it.number, it.start, it.content, it.end) if found else None
+
+
+def not_canonical(data: bytes, levels: int = 4) -> NotCanonical | None:
+    """Where and why the bytes aren't exactly one data item in CTAP2's canonical form, with arrays and maps inside one another at no more
+    levels than this, and at most 256; `None` if they are (CTAP 2.2, section 8)."""
+    offset = ctypes.c_size_t()
+    rule = _library.puffgrit_not_canonical(_checked(data), len(data), _offset(levels), ctypes.byref(offset))
+    return NotCanonical(RULES[rule - 1], offset.value) if rule else None
 
 
 def item_at(data: bytes, offset: int = 0) -> Item | None:

@@ -65,6 +65,7 @@ def load() -> ctypes.CDLL:
     for name, result, arguments in [
         ("item_len", ctypes.c_size_t, buffer),
         ("is_canonical", ctypes.c_bool, buffer),
+        ("not_canonical", ctypes.c_uint32, [*buffer, ctypes.c_size_t, length]),
         ("item_at", ctypes.c_bool, [*buffer, ctypes.c_size_t, item]),
         ("member", ctypes.c_bool, [*buffer, ctypes.c_size_t, ctypes.c_int64, item]),
         ("named", ctypes.c_bool, [*buffer, ctypes.c_size_t, *buffer, item]),

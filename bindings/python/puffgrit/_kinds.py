@@ -28,3 +28,8 @@ EXACT = (
 
 #: The kinds of `explain`: all.
 EXPLAINED = KINDS
+
+#: The rules of CTAP2's canonical form (CTAP 2.2, section 8), by their numbers in C from 1 on.
+RULES = (
+    "WellFormed ShortestHead DefiniteLength NoTag NoUndefined AscendingKeys DistinctKeys Levels NothingAfter"
+).split()

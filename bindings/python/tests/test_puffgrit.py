@@ -34,6 +34,11 @@ class Puffgrit(unittest.TestCase):
         self.assertEqual(puffgrit.item_len(b""), 0)
         self.assertTrue(puffgrit.is_canonical(bytes.fromhex("8101")))
         self.assertFalse(puffgrit.is_canonical(bytes.fromhex("9f1801ff")))
+        self.assertIsNone(puffgrit.not_canonical(bytes.fromhex("8101")))
+        self.assertEqual(puffgrit.not_canonical(bytes.fromhex("811801")), puffgrit.NotCanonical("ShortestHead", 1))
+        self.assertEqual(puffgrit.not_canonical(bytes.fromhex("8181818180")), puffgrit.NotCanonical("Levels", 4))
+        self.assertEqual(puffgrit.not_canonical(bytes.fromhex("a2616100616100")), puffgrit.NotCanonical("DistinctKeys", 4))
+        self.assertEqual(puffgrit.not_canonical(b"\x00\x00", 0), puffgrit.NotCanonical("NothingAfter", 1))
 
     def test_items(self):
         # RFC 8949, appendix A: [1, [2, 3], [4, 5]] and {"a": 1, "b": [2, 3]}

@@ -23,6 +23,7 @@ mod fault;
 mod item;
 #[cfg(feature = "whole")]
 mod kind;
+mod rule;
 
 pub use auth_data::AuthData;
 use core::mem::MaybeUninit;
@@ -33,6 +34,7 @@ pub use fault::{Error, Fault};
 pub use item::{Elements, Item, Type};
 #[cfg(feature = "whole")]
 pub use kind::Kind;
+pub use rule::Rule;
 
 /// The version of the interface, which is that of puffgrit.h.
 pub const VERSION: u32 = 3;
@@ -40,6 +42,7 @@ pub const VERSION: u32 = 3;
 extern "C" {
     fn puffgrit_item_len(bytes: *const u8, len: usize) -> usize;
     fn puffgrit_is_canonical(bytes: *const u8, len: usize) -> bool;
+    fn puffgrit_not_canonical(bytes: *const u8, len: usize, levels: usize, offset: *mut usize) -> u32;
     fn puffgrit_item_at(bytes: *const u8, len: usize, offset: usize, item: *mut Item) -> bool;
     fn puffgrit_member(bytes: *const u8, len: usize, map: usize, key: i64, value: *mut Item) -> bool;
     fn puffgrit_named(bytes: *const u8, len: usize, map: usize, name: *const u8, name_len: usize, value: *mut Item) -> bool;
@@ -78,6 +81,27 @@ pub fn item_len(bytes: &[u8]) -> Option<usize> {
 pub fn is_canonical(bytes: &[u8]) -> bool {
     // SAFETY: as above.
     unsafe { puffgrit_is_canonical(bytes.as_ptr(), bytes.len()) }
+}
+
+/// Where bytes leave CTAP2's canonical form.
+#[derive(Clone, Copy, Debug, PartialEq, Eq)]
+pub struct NotCanonical {
+    /// The rule that is broken there.
+    pub rule: Rule,
+    /// The offset of the head that breaks it: of a key that isn't in its place, its own; of trailing
+    /// bytes, that of the first.
+    pub offset: usize,
+}
+
+/// Where and why the bytes aren't exactly one data item in CTAP2's canonical form, with arrays and
+/// maps inside one another at no more than so many levels (4 in messages), and at most 256. `None` if
+/// they are (CTAP 2.2, section 8).
+pub fn not_canonical(bytes: &[u8], levels: usize) -> Option<NotCanonical> {
+    let mut offset = 0;
+    // SAFETY: as above, and the offset can be written.
+    let number = unsafe { puffgrit_not_canonical(bytes.as_ptr(), bytes.len(), levels, &mut offset) };
+    let rule = *Rule::ALL.get((number as usize).checked_sub(1)?)?;
+    Some(NotCanonical { rule, offset })
 }
 
 /// The data item at the offset.
@@ -139,6 +163,9 @@ mod tests {
         assert_eq!(item_len(&[0x9f, 0x18, 0x01, 0xff, 0x00]), Some(4));
         assert_eq!(item_len(&[]), None);
         assert!(is_canonical(&[0x81, 0x01]));
+        assert_eq!(not_canonical(&[0x81, 0x01], 1), None);
+        assert_eq!(not_canonical(&[0x81, 0x01], 0).map(|it| (it.rule, it.offset)), Some((Rule::Levels, 0)));
+        assert_eq!(not_canonical(&[0x81, 0x18, 0x01], 4).map(|it| (it.rule, it.offset)), Some((Rule::ShortestHead, 1)));
         assert_eq!(item_at(&[0x81, 0x01], 1).map(|it| it.number), Some(1));
         assert_eq!(member(&[0xa1, 0x20, 0x05], 0, Key::Number(-1)).map(|it| it.number), Some(5));
         assert_eq!(member(&[0xa1, 0x61, 0x61, 0x05], 0, Key::Name("a")).map(|it| it.from), Some(3));
