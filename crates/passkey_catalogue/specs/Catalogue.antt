@@ -65,6 +65,8 @@ ctap_definition ctap.CertInfo = other form.CertInfo
 ctap_definition ctap.PubArea = other form.PubArea
 ctap_definition ctap.CtapMakeRequest = by_table registered.make_credential.McRequest.mc_request
 ctap_definition ctap.CtapGetRequest = by_table registered.get_assertion.GaRequest.ga_request
+ctap_definition ctap.CtapMakeResponse = by_table registered.make_credential.McResponse.mc_response
+ctap_definition ctap.CtapGetResponse = by_table registered.get_assertion.GaResponse.ga_response
 
 abbrev pub definition : Kind → Definition Form
 definition (kind.Bytes k) = bytes_definition k

@@ -39,6 +39,8 @@ ctap_rows = (codes "pin-request", kind.PinRequest, codes "CTAP 2.1, section 6.5"
     ∷ (codes "tpm-pub-area", kind.PubArea, codes "TPM 2.0 Library, Part 2")
     ∷ (codes "ctap-mc-request", kind.CtapMakeRequest, codes "CTAP 2.2, section 6.1")
     ∷ (codes "ctap-ga-request", kind.CtapGetRequest, codes "CTAP 2.2, section 6.2")
+    ∷ (codes "ctap-mc-response", kind.CtapMakeResponse, codes "CTAP 2.2, section 6.1")
+    ∷ (codes "ctap-ga-response", kind.CtapGetResponse, codes "CTAP 2.2, section 6.2")
     ∷ []
 
 abbrev pub ctap_kinds : Names CtapKind

@@ -73,6 +73,10 @@ pub enum CtapKind {
     CtapMakeRequest,
     /// An authenticatorGetAssertion request by the standard alone (CTAP 2.2, section 6.2).
     CtapGetRequest,
+    /// An authenticatorMakeCredential response by the standard alone (CTAP 2.2, section 6.1).
+    CtapMakeResponse,
+    /// An authenticatorGetAssertion response by the standard alone (CTAP 2.2, section 6.2).
+    CtapGetResponse,
 }
 
 /// The kinds: the name of each, its value, and the standard that defines what its inputs are, with the
@@ -113,6 +117,8 @@ macro_rules! kinds {
             ("tpm-pub-area", CtapKind::PubArea, "TPM 2.0 Library, Part 2"),
             ("ctap-mc-request", CtapKind::CtapMakeRequest, "CTAP 2.2, section 6.1"),
             ("ctap-ga-request", CtapKind::CtapGetRequest, "CTAP 2.2, section 6.2"),
+            ("ctap-mc-response", CtapKind::CtapMakeResponse, "CTAP 2.2, section 6.1"),
+            ("ctap-ga-response", CtapKind::CtapGetResponse, "CTAP 2.2, section 6.2"),
         }
     };
 }

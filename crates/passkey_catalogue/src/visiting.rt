@@ -55,6 +55,8 @@ macro_rules! of_ctap_kind {
             CtapKind::PubArea => $visitor.visit_other(Form::PubArea),
             CtapKind::CtapMakeRequest => $visitor.visit_message::<registered::make_credential::Request>(),
             CtapKind::CtapGetRequest => $visitor.visit_message::<registered::get_assertion::Request>(),
+            CtapKind::CtapMakeResponse => $visitor.visit_message::<registered::make_credential::Response>(),
+            CtapKind::CtapGetResponse => $visitor.visit_message::<registered::get_assertion::Response>(),
         }
     };
 }

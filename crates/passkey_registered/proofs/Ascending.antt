@@ -13,7 +13,7 @@ use Rattle.std.specs.declared.cmp.Ordering.{Ordering}
 
 -- ---- of two keys that differ one comes first
 
-order_flips : (a b : List ℕ) → ctap2_order b a ≡ ordering_reverse (ctap2_order a b)
+pub order_flips : (a b : List ℕ) → ctap2_order b a ≡ ordering_reverse (ctap2_order a b)
 order_flips a b =
     rw (
       nat_cmp_total.antisymm (key_type b) (key_type a),

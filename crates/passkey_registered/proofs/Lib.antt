@@ -4,7 +4,10 @@ pub mod Information
 pub mod Named
 pub mod ExtensionsLaws
 pub mod Requests
+pub mod KeptValues
+pub mod Responses
 pub mod Places
 pub mod Sorting
 pub mod Ascending
 pub mod CanonicalOrder
+pub mod SameForm

@@ -1,11 +1,15 @@
 -- The canonical form of data items: the members of each map in CTAP2's order (CTAP 2.2, section 8).
-use Rattle.std.specs.Prelude.{◌≡◌, ℕ, suc, [], ◌∷◌, List, if◌then◌else◌, map}
+use Rattle.std.specs.Prelude.{◌≡◌, ℕ, suc, true, [], ◌∷◌, List, Err, if◌then◌else◌, is_ok, map}
 use Rattle.passkey_cbor.specs.Item.{Item, Items, Pairs, array, item, members, no_items, no_pairs, pair, pairs_of, tagged}
 use Rattle.passkey_cbor.specs.Item as spec
 use Rattle.passkey_cbor.specs.Order.{ctap2_order}
 use Rattle.passkey_cbor.specs.Written.{written}
 use Rattle.passkey_registered.specs.extensions.Others.{AreApart, with_all}
-use Rattle.passkey_kinds.specs.Words.{Members}
+use Rattle.passkey_cbor.specs.LeadingItem.{HasNoLeadingItem}
+use Rattle.passkey_kinds.specs.Message.{Begins}
+use Rattle.passkey_kinds.specs.Words.{Fields, Members, read_item}
+use Rattle.passkey_kinds.specs.declared.fault.Fault.{Fault}
+use Rattle.passkey_kinds.specs.declared.fault.Fault.TheVariants as fault
 use Rattle.std.specs.Ordering.{is_lt}
 
 -- these members, each before the first one whose key comes after its own
@@ -52,6 +56,17 @@ canonical_member m = (canonical_form m.0, canonical_form m.1)
 abbrev pub place_among : List ℕ → List (List ℕ) → ℕ
 place_among key [] = 0
 place_among key (k ∷ ks) = if is_lt (ctap2_order key k) then 0 else suc (place_among key ks)
+
+-- The fault of these bytes, as a message of this table.
+abbrev pub IsFaultOf : {P : Type 0} → Fields P → List ℕ → Fault → Type 0
+IsFaultOf t bytes fault.DecodeFailed = HasNoLeadingItem bytes
+IsFaultOf t bytes fault.OutOfMemory = Unit {0}
+IsFaultOf t bytes e = Begins bytes (λ i len. read_item t i ≡ Err e)
+
+-- The bytes begin with a message of this table, of this length, and this is the encoding of the canonical form of its item.
+abbrev pub IsMessageInForm : {P : Type 0} → Fields P → List ℕ → List ℕ → ℕ → Type 0
+IsMessageInForm t bytes encoding n =
+    Begins bytes (λ i len. ((len ≡ n) × (is_ok (read_item t i) ≡ true)) × (encoding ≡ written (canonical_form i)))
 
 -- these are the encoded keys of the members
 abbrev pub AreKeysOf : Members → List (List ℕ) → Type 0

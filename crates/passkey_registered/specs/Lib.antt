@@ -1,4 +1,5 @@
 pub mod Exact
+pub mod Kept
 pub mod Entities
 pub mod get_assertion
 pub mod make_credential

@@ -1,1 +1,2 @@
 pub mod GaRequest
+pub mod GaResponse

@@ -1,1 +1,2 @@
 pub mod McRequest
+pub mod McResponse

@@ -1,14 +1,15 @@
 //! The canonical form of data items.
-ghost use Rattle.std.specs.Prelude.{◌≡◌, ◌<◌, IfOk, OnOk, length, map};
+ghost use Rattle.std.specs.Prelude.{◌≡◌, ◌<◌, IfErr, IfOk, OnOk, length, map};
 ghost use Rattle.std.specs.List.{All};
-ghost use Rattle.passkey_cbor.specs.Canonical.{IsOrdered};
+ghost use Rattle.passkey_cbor.specs.Canonical.{IsCanonical, IsOrdered};
 ghost use Rattle.passkey_cbor.specs.View.{item_of, pair_of};
 ghost use Rattle.passkey_kinds.specs.Words.{written};
 ghost use Rattle.passkey_registered.specs.CanonicalForm.{AreKeysOf, HasCanonicalForm, canonical_form, canonical_member, place_among, sorted};
+ghost use Rattle.passkey_registered.specs.CanonicalForm.{IsFaultOf, IsMessageInForm};
 ghost use Rattle.passkey_registered.specs.extensions.Others.{placed};
 
-use passkey_cbor::{Value, ctap2_order};
-use passkey_kinds::OutOfMemory;
+use passkey_cbor::{CborError, Value, ctap2_order};
+use passkey_kinds::{Fault, Message, OutOfMemory};
 use std::alloc::Global;
 use std::cmp::Ordering;
 
@@ -104,4 +105,29 @@ pub fn canonical_vec(alloc: Global, item: &Value) -> Result<Vec<u8>, OutOfMemory
 {
     let ordered = in_canonical_form(alloc, item)?;
     ordered.to_vec(alloc)
+}
+
+/// Decodes the message at the beginning of the bytes, and encodes its item in canonical form: nothing is
+/// added and nothing left out, at any level, also what the message's table doesn't know. Returns the
+/// encoding and how many bytes the message has. What is canonical comes back as it is. Ignores bytes
+/// after the message. The errors are those of `Message::from_slice`, but that `OutOfMemory` may also come
+/// in place of another one.
+#[tactic(auto, using(crate::proofs::SameForm::canonical_again))]
+pub fn canonical_message<M: Message>(
+    alloc: Global,
+    bytes: &[u8],
+) -> Result<(Vec<u8>, usize), Fault>
+    ensures encoded { IfOk result (λ r. IsMessageInForm M.fields bytes.now r.0.items r.1) }
+    ensures refused { IfErr result (λ e. IsFaultOf M.fields bytes.now e) }
+    ensures same { IsCanonical bytes.now → IfOk result (λ r. r.0.items ≡ bytes.now) }
+{
+    passkey_cbor::laws::at_most_one_leading_item();
+    passkey_cbor::laws::written_is_leading_item();
+    let (item, len) = match Value::from_slice(alloc, bytes) {
+        Ok(front) => front,
+        Err(CborError::OutOfMemory) => return Err(Fault::OutOfMemory),
+        Err(_) => return Err(Fault::DecodeFailed),
+    };
+    drop(M::from_value(alloc, &item)?);
+    Ok((canonical_vec(alloc, &item)?, len))
 }

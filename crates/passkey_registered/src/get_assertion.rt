@@ -1,4 +1,6 @@
 //! Messages of authenticatorGetAssertion, by the standard alone (CTAP 2.2, section 6.2).
 mod request;
+mod response;
 
 pub use request::Request;
+pub use response::Response;

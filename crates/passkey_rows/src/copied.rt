@@ -2,6 +2,7 @@
 use crate::again_bytes::Copied;
 use crate::tries::{Part, Tries};
 use passkey_types::OutOfMemory;
+use passkey_types::ctap2::registered::KeptMap;
 use passkey_types::ctap2::registered::extensions::{
     PrfValue, get_assertion as used, make_credential as made,
 };
@@ -13,6 +14,12 @@ use std::alloc::Global;
 impl Part for Kept {
     fn copy(&self, alloc: Global) -> Result<Kept, OutOfMemory> {
         Kept::new(self.try_clone(alloc)?.into_value()).ok_or(OutOfMemory)
+    }
+}
+
+impl Part for KeptMap {
+    fn copy(&self, alloc: Global) -> Result<KeptMap, OutOfMemory> {
+        KeptMap::new(self.item().copy(alloc)?).ok_or(OutOfMemory)
     }
 }
 
@@ -101,6 +108,19 @@ impl Copied for registered::make_credential::Request {
 impl Copied for registered::get_assertion::Request {
     fn replace_parts(&mut self, alloc: Global, tries: &mut Tries) -> Result<(), OutOfMemory> {
         tries.replace_some(alloc, &mut self.extensions)
+    }
+}
+
+impl Copied for registered::make_credential::Response {
+    fn replace_parts(&mut self, alloc: Global, tries: &mut Tries) -> Result<(), OutOfMemory> {
+        tries.replace_some(alloc, &mut self.att_stmt)?;
+        tries.replace_some(alloc, &mut self.unsigned_extension_outputs)
+    }
+}
+
+impl Copied for registered::get_assertion::Response {
+    fn replace_parts(&mut self, alloc: Global, tries: &mut Tries) -> Result<(), OutOfMemory> {
+        tries.replace_some(alloc, &mut self.unsigned_extension_outputs)
     }
 }
 

@@ -5,6 +5,7 @@ use passkey_catalogue::{Form, Kind, visit};
 use passkey_rewrite::{RunFault, Visitor};
 use passkey_types::cbor::{CborError, Count, Cursor, Value};
 use passkey_types::ctap2::framing::from_body;
+use passkey_types::ctap2::registered::canonical_message;
 use passkey_types::ctap2::{Fault, Message};
 use std::alloc::Global;
 
@@ -17,6 +18,8 @@ pub enum Source {
     Body,
     /// The leading data item of the bytes.
     Item,
+    /// Bytes, of which the whole item is encoded in canonical form.
+    Whole,
     /// A cursor over the bytes. The message isn't encoded.
     Cursor,
 }
@@ -75,6 +78,7 @@ impl<'a, 'b> Decoding<'a, 'b> {
             Source::Bytes => M::from_slice(self.alloc, self.bytes)?,
             Source::Body => from_body::<M>(self.alloc, self.bytes)?,
             Source::Item => from_item::<M>(self.alloc, self.tries, self.bytes)?,
+            Source::Whole => return Ok(canonical_message::<M>(self.alloc, self.bytes)?),
             Source::Cursor => {
                 let _message = M::read(self.alloc, cursor)?;
                 return Ok((Vec::new(self.alloc), cursor.place()));

@@ -66,6 +66,9 @@ fn way_of(name: &str) -> (Way, &str) {
     if let Some(kind) = name.strip_prefix("nodes-") {
         return (Way::Counted(Counts::Nodes), kind);
     }
+    if let Some(kind) = name.strip_prefix("whole-") {
+        return (Way::Whole, kind);
+    }
     if let Some(kind) = name.strip_prefix("body-") {
         return (Way::Body, kind);
     }

@@ -30,6 +30,8 @@ pub enum Way {
     Counted(Counts),
     /// It is decoded as the body of a request or a response, which may be empty.
     Body,
+    /// It is decoded, and its whole item is encoded in canonical form.
+    Whole,
 }
 
 /// Bytes of which the parts are replaced by copies, or which go by way of data items.
@@ -122,6 +124,7 @@ pub fn message_row(
     let encoding = match way {
         Way::Once => once(alloc, tries, Source::Bytes, kind, &bytes)?,
         Way::Body => once(alloc, tries, Source::Body, kind, &bytes)?,
+        Way::Whole => once(alloc, tries, Source::Whole, kind, &bytes)?,
         _ => {
             let bytes = bytes.as_slice();
             in_parts(

@@ -1,0 +1,26 @@
+//! Laws about authenticatorMakeCredential responses. Each is the contract of a function that does
+//! nothing.
+ghost use Rattle.passkey_kinds.specs.Numbered.{MessagesAreReadBack, is_shallow};
+ghost use Rattle.passkey_kinds.specs.Words.{WrittenIsCanonical, plain_tree};
+ghost use Rattle.passkey_registered.specs.make_credential.McResponse.{mc_response, mc_response_kept};
+
+use crate::make_credential::Response;
+use passkey_kinds::TableRecord;
+
+/// The encoding of a coherent response, whatever bytes follow, decodes to the response.
+pub fn written_response_is_read_back()
+    ensures { MessagesAreReadBack true (λ r. r) mc_response }
+{
+    <Response as TableRecord>::lawful();
+    passkey_cbor::laws::written_is_leading_item();
+}
+
+/// The encoding of a coherent response is in CTAP2's canonical form if the encodings of its attestation
+/// statement and of its unsigned extension outputs are (CTAP 2.2, section 8).
+#[tactic(auto, using(crate::proofs::Responses::mc_response_law))]
+pub fn written_response_is_canonical()
+    ensures { WrittenIsCanonical (plain_tree mc_response) (is_shallow mc_response) mc_response_kept }
+{
+    passkey_cbor::laws::at_most_one_leading_item();
+    passkey_cbor::laws::written_is_leading_item();
+}
