@@ -1,15 +1,10 @@
--- Values of responses that are kept as they came: they can be decoded again.
+-- Maps that are kept undecoded can be decoded again.
 use Rattle.passkey_cbor.specs.Item as item
 use Rattle.passkey_kinds.proofs.Around.{Around}
-use Rattle.passkey_kinds.proofs.Common.{IsReadBack, Item, Kind, List, None, Option, Some, ap, arith, byte_string, data_from, depth, is_some, option_map, refl, subst, true, ℕ, ◌+◌, ◌≡◌, ◌≤◌, DataParts}
+use Rattle.passkey_kinds.proofs.Common.{IsReadBack, Item, None, Some, arith, depth, refl, subst, ◌≡◌, ◌≤◌}
 use Rattle.passkey_kinds.specs.Numbered.{not_null}
-use Rattle.passkey_registered.specs.Exact.{exact_bytes_from}
-use Rattle.passkey_registered.specs.Kept.{HoldsData, IsMap, data_bytes_from, given_bytes, map_from, no_data}
+use Rattle.passkey_registered.specs.Kept.{IsMap, map_from}
 use Rattle.std.specs.Prelude.{[], ◌∷◌}
-use Rattle.passkey_core.specs.DataRead.{read_data}
-use Rattle.passkey_core.specs.DataReading.{fixed_at}
-
--- ---- maps
 
 pub map_back : IsReadBack map_from (λ i. i) IsMap (λ i. i)
 map_back = record { back = λ i h. h }
@@ -36,34 +31,3 @@ map_around = record {
   writable = λ i h. (h, tt);
   decoded = λ n i x e less. let same = map_is i x e in (subst (λ k. depth k ≤ n) same (omega (arith, less)), tt);
 }
-
--- ---- the bytes of authenticator data
-
-pub no_data_holds : HoldsData (given_bytes [])
-unfolding read_data, fixed_at
-no_data_holds = refl
-
-no_bytes : data_from (byte_string []) ≡ None
-unfolding read_data, fixed_at
-no_bytes = refl
-
--- what holds data isn't empty
-pub given_as_they_are : (s : List ℕ) (d : DataParts) → data_from (byte_string s) ≡ Some d → given_bytes s ≡ s
-given_as_they_are [] d h = absurd cc
-given_as_they_are (b ∷ bs) d h = refl
-
-some_back : {A B : Type 0} (o : Option A) (x : B) → is_some o ≡ true → option_map (λ d. x) o ≡ Some x
-some_back None x h = absurd cc
-some_back (Some d) x h = refl
-
-pub data_bytes_back : IsReadBack data_bytes_from byte_string HoldsData (λ b. b)
-data_bytes_back = record { back = λ b h. some_back (data_from (byte_string b)) b h }
-
--- only a byte string holds data
-pub data_in : (i : Item) (d : DataParts) → data_from i ≡ Some d → data_bytes_from i ≡ exact_bytes_from i
-data_in (item.byte_string s) d h = rw h refl
-data_in _ d h = absurd cc
-
-pub no_data_in : (i : Item) → data_from i ≡ None → data_bytes_from i ≡ None
-no_data_in (item.byte_string s) h = rw h refl
-no_data_in _ h = refl

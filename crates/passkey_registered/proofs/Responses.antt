@@ -2,17 +2,17 @@
 -- canonical form.
 use Rattle.passkey_kinds.proofs.Around.{AtMost}
 use Rattle.passkey_kinds.proofs.Back.{Backs, are_distinct, have_rows, kind_back, missing_of, numbers}
-use Rattle.passkey_kinds.proofs.Common.{AllCanonical, AtMostOneLeadingItem, Bool, EachFits, IsOrdered, IsReadBack, IsWritable, Item, KeysAscend, List, None, Option, PlainTable, ReadIsCoherent, Some, WrittenIsCanonical, WrittenIsLeadingItem, and_from, and_parts, arith, depth, le-leb, leb-true, members_of, places_of, plain_tree, read_item, record_kind, refl, same_tests, table_of, true, ℕ, ◌&&◌, ◌++◌, ◌<◌, ◌≡◌, ◌≤◌, option_map}
+use Rattle.passkey_kinds.proofs.Common.{AllCanonical, AtMostOneLeadingItem, Bool, EachFits, IsOrdered, IsReadBack, IsWritable, Item, KeysAscend, List, None, Option, PlainTable, ReadIsCoherent, Some, WrittenIsCanonical, WrittenIsLeadingItem, and_from, and_parts, arith, depth, le-leb, leb-true, members_of, places_of, plain_tree, read_item, record_kind, refl, same_tests, table_of, true, ℕ, ◌&&◌, ◌+◌, ◌++◌, ◌<◌, ◌≡◌, ◌≤◌, option_map}
 use Rattle.passkey_kinds.proofs.Keeping.{Keeps, record_keeps}
 use Rattle.passkey_kinds.proofs.Levels.{EachPlace, PlaceHas, of_record as levels_of, record_within}
 use Rattle.passkey_kinds.proofs.Numbered.{IsKeeping, keeping_law, long_back}
 use Rattle.passkey_kinds.proofs.Ordered.{IsPlain, Rule, ascend, canonical_of, few_levels, in_order, keys_ascend, number_plain, of_record, ordered_of, record_ordered}
-use Rattle.passkey_kinds.proofs.Steps.{anything, list_plain, no_more, plainly, puts_default, puts_value, shortest_head, text_back, truth_back, ◌▸◌}
+use Rattle.passkey_kinds.proofs.Steps.{anything, no_more, plainly, puts_default, puts_value, shortest_head, text_back, truth_back, ◌▸◌}
 use Rattle.passkey_kinds.specs.Message.{kept_if_some}
 use Rattle.passkey_kinds.specs.Numbered.{has_room, is_shallow, numbered_fields}
 use Rattle.passkey_registered.proofs.EntityLaws.{descriptor_law, user_law}
 use Rattle.passkey_registered.proofs.ExactValues.{exact_bytes_back, hash_back, present_keeps, present_place}
-use Rattle.passkey_registered.proofs.KeptValues.{data_bytes_back, map_around, map_back}
+use Rattle.passkey_registered.proofs.KeptValues.{map_around, map_back}
 use Rattle.passkey_registered.specs.Kept.{both_kept}
 use Rattle.passkey_registered.specs.get_assertion.GaResponse.{ga_response}
 use Rattle.passkey_registered.specs.make_credential.McResponse.{mc_response}
@@ -24,11 +24,11 @@ use Rattle.passkey_kinds.specs.Tree.{number_tree}
 pub ga_response_law : IsKeeping (λ r. r) ga_response (λ r. r.unsigned_extension_outputs)
 unfolding shortest_head
 ga_response_law = keeping_law ga_response 3 8 (omega arith) (λ r. refl) (λ r. refl) (λ r. refl)
-    (λ Q rule r key. search (rule.holds, plainly, list_plain 2, descriptor_law.plain 1, user_law.plain 2) depth 22)
+    (λ Q rule r key. search (rule.holds, plainly, descriptor_law.plain 1, user_law.plain 2) depth 22)
     (λ Q r each. search) (λ m. tt)
     (λ m i less. search (present_keeps map_around) depth 17 parts 17) (λ r fits.
     puts_default (present_place descriptor_law.back r.credential (search)) refl ▸
-    puts_value data_bytes_back r.auth_data (search) ▸
+    puts_value exact_bytes_back r.auth_data tt ▸
     puts_value exact_bytes_back r.signature tt ▸
     puts_default (present_place user_law.back r.user (search)) refl ▸
     puts_default (present_place long_back r.number_of_credentials (search)) refl ▸
@@ -57,20 +57,20 @@ Kept o = kept_if_some (λ i. i ∷ []) o
 
 -- the value of a place
 module _ (n k : ℕ) (few : n ≤ 255) where
-  room_place : (o : Option Item) → has_room o ≡ true → PlaceHas Shallow (number_tree k) o
+  room_place : (o : Option Item) → has_room o ≡ true → PlaceHas Shallow (number_tree k) (option_map (λ i. i) o)
   room_place None h = tt
   room_place (Some i) h = (omega arith, leb-true _ _ h)
 
-  place_room : (o : Option Item) → PlaceHas Shallow (number_tree k) o → has_room o ≡ true
+  place_room : (o : Option Item) → PlaceHas Shallow (number_tree k) (option_map (λ i. i) o) → has_room o ≡ true
   place_room None h = refl
   place_room (Some i) h = le-leb _ 255 h.1
 
-  most_place : (o : Option Item) → AtMost 255 (Kept o) → PlaceHas Shallow (number_tree k) o
+  most_place : (o : Option Item) → AtMost 255 (Kept o) → PlaceHas Shallow (number_tree k) (option_map (λ i. i) o)
   most_place None h = tt
   most_place (Some i) h = (omega arith, h.0)
 
-  ordered_place : AtMostOneLeadingItem → WrittenIsLeadingItem → (o : Option Item) → PlaceHas IsWritable (number_tree k) o
-      → PlaceHas Shallow (number_tree k) o → AllCanonical (Kept o) → PlaceHas IsOrdered (number_tree k) o
+  ordered_place : AtMostOneLeadingItem → WrittenIsLeadingItem → (o : Option Item) → PlaceHas IsWritable (number_tree k) (option_map (λ i. i) o)
+      → PlaceHas Shallow (number_tree k) (option_map (λ i. i) o) → AllCanonical (Kept o) → PlaceHas IsOrdered (number_tree k) (option_map (λ i. i) o)
   ordered_place one front None w d c = tt
   ordered_place one front (Some i) w d c = (tt, ordered_of one front i w.1 (omega (arith, d.1)) c.0)
 
@@ -84,10 +84,10 @@ module _ {P : Type 0} (t : PlainTable P) (one two : P → Option Item) (n j k : 
       → ((p : P) → (have_rows (table_of (numbered_fields t)) (numbers (members_of t.members)) (places_of t.members p)
       && are_distinct (numbers (members_of t.members))) ≡ true)
       → ((p : P) → missing_of (table_of (numbered_fields t)) (numbers (members_of t.members)) (places_of t.members p)
-      ≡ None) → ((Q : Item → Type 0) → Rule n Q → (r : P) → PlaceHas Q (number_tree j) (one r)
-      → PlaceHas Q (number_tree k) (two r) → EachPlace Q (places_of t.members r))
+      ≡ None) → ((Q : Item → Type 0) → Rule n Q → (r : P) → PlaceHas Q (number_tree j) (option_map (λ i. i) (one r))
+      → PlaceHas Q (number_tree k) (option_map (λ i. i) (two r)) → EachPlace Q (places_of t.members r))
       → ((Q : Item → Type 0) (r : P) → EachPlace Q (places_of t.members r)
-      → PlaceHas Q (number_tree j) (one r) × PlaceHas Q (number_tree k) (two r))
+      → PlaceHas Q (number_tree j) (option_map (λ i. i) (one r)) × PlaceHas Q (number_tree k) (option_map (λ i. i) (two r)))
       → AtMost 255 (Kept (one t.blank)) × AtMost 255 (Kept (two t.blank))
       → ((i : Item) → depth i ≤ 256
       → Keeps (depth i) (λ r. AtMost 255 (Kept (one r)) × AtMost 255 (Kept (two r))) (members_of t.members))
@@ -117,7 +117,7 @@ module _ {P : Type 0} (t : PlainTable P) (one two : P → Option Item) (n j k : 
         (each IsOrdered (in_order n) r (ordered_place n j few first front (one r) writes.0 here.0 parts.0)
         (ordered_place n k few first front (two r) writes.1 here.1 parts.1)));
   } where
-    within : (r : P) → PlaceHas Shallow (number_tree j) (one r) → PlaceHas Shallow (number_tree k) (two r)
+    within : (r : P) → PlaceHas Shallow (number_tree j) (option_map (λ i. i) (one r)) → PlaceHas Shallow (number_tree k) (option_map (λ i. i) (two r))
         → depth (plain_tree t r) ≤ 256
     within r x y = record_within 255 (places_of t.members r) (each Shallow (few_levels n 255 few) r x y)
 
@@ -129,9 +129,13 @@ mc_response_law = keeps_two mc_response (λ r. r.att_stmt) (λ r. r.unsigned_ext
     (λ r. refl) (λ r. refl) (λ r. refl)
     (λ Q rule r x y. search (rule.holds, plainly) depth 14)
     (λ Q r each. search) (tt, tt)
-    (λ i less. search (present_keeps map_around) depth 14 parts 14) (λ r fits.
+    (λ i less.
+    let few : depth i ≤ 255 + 1 = omega (arith, less) in
+    (λ x v r l e h. h, (λ x v r l e h. h, (λ x v r l e h. (present_keeps map_around 255 (depth i) x v e l few, h.1),
+    (λ x v r l e h. h, (λ x v r l e h. h, (λ x v r l e h. (h.0, present_keeps map_around 255 (depth i) x v e l few),
+    tt))))))) (λ r fits.
     puts_value text_back r.fmt tt ▸
-    puts_value data_bytes_back r.auth_data (search) ▸
+    puts_value exact_bytes_back r.auth_data tt ▸
     puts_default (present_place map_back r.att_stmt (search)) refl ▸
     puts_default (present_place truth_back r.ep_att (anything r.ep_att)) refl ▸
     puts_default (present_place hash_back r.large_blob_key (search)) refl ▸

@@ -11,7 +11,7 @@ use std::alloc::Global;
 
 /// A byte string. Unlike `Bytes`, it is decoded neither from an array nor from a text.
 #[derive(Drop)]
-pub(crate) struct ExactBytes(pub(crate) Bytes);
+pub(crate) struct ExactBytes(Bytes);
 
 impl ExactBytes {
     pub(crate) fn as_slice(&self) -> &[u8]

@@ -3,7 +3,6 @@
 //! credential by the standard alone.
 #![tactic(auto)]
 
-mod authenticator_data;
 mod canonical_form;
 mod client_data_hash;
 pub mod entities;
@@ -15,7 +14,6 @@ mod kept_map;
 mod large_blob_key;
 pub mod make_credential;
 
-pub use authenticator_data::AuthenticatorDataBytes;
 pub use canonical_form::{canonical_message, canonical_vec, in_canonical_form};
 pub use client_data_hash::ClientDataHash;
 pub use kept_map::KeptMap;

@@ -5,14 +5,14 @@ use Rattle.passkey_kinds.specs.Numbered.{long}
 use Rattle.passkey_kinds.specs.Words.{PlainTable, plain, required_at}
 use Rattle.passkey_registered.specs.Entities.{descriptor, user}
 use Rattle.passkey_registered.specs.Exact.{exact_bytes, hash, present_at}
-use Rattle.passkey_registered.specs.Kept.{data_bytes, kept_map, no_data}
+use Rattle.passkey_registered.specs.Kept.{kept_map}
 use Rattle.passkey_registered.specs.declared.get_assertion.response.Response.{Response}
 
 abbrev pub ga_response : PlainTable Response
 ga_response = record {
   blank = record {
     credential = None;
-    auth_data = no_data;
+    auth_data = [];
     signature = [];
     user = None;
     number_of_credentials = None;
@@ -21,7 +21,7 @@ ga_response = record {
     unsigned_extension_outputs = None;
   };
   members = present_at 1 (codes "credential") (plain descriptor) (λ r. r.credential) (λ x r. record r { credential = x })
-      ∷ required_at 2 (codes "authData") data_bytes (λ r. r.auth_data) (λ x r. record r { auth_data = x })
+      ∷ required_at 2 (codes "authData") exact_bytes (λ r. r.auth_data) (λ x r. record r { auth_data = x })
       ∷ required_at 3 (codes "signature") exact_bytes (λ r. r.signature) (λ x r. record r { signature = x })
       ∷ present_at 4 (codes "user") (plain user) (λ r. r.user) (λ x r. record r { user = x })
       ∷ present_at 5 (codes "numberOfCredentials") long (λ r. r.number_of_credentials)

@@ -1,14 +1,13 @@
 //! authenticatorGetAssertion and authenticatorGetNextAssertion responses.
 ghost use Rattle.passkey_registered.specs.get_assertion.GaResponse.{ga_response};
 
-use crate::authenticator_data::AuthenticatorDataBytes;
 use crate::entities::{CredentialDescriptor, UserEntity};
 use crate::exact::{set_bytes, set_present};
 use crate::kept_map::KeptMap;
 use crate::large_blob_key::LargeBlobKey;
 use passkey_bytes::Bytes;
 use passkey_kinds::{
-    Kept, OutOfMemory, Refusal, Row, Sink, Source, TableMessage, TableRecord, set,
+    Kept, OutOfMemory, Refusal, Row, Sink, Source, TableMessage, TableRecord,
 };
 use std::alloc::Global;
 
@@ -19,8 +18,9 @@ pub struct Response {
     /// 0x01: the credential that was used. Authenticators of CTAP 2.0 leave it out if the allow list has
     /// exactly one element.
     pub credential: Option<CredentialDescriptor>,
-    /// 0x02: the authenticator data, as the bytes that came.
-    pub auth_data: AuthenticatorDataBytes,
+    /// 0x02: the authenticator data, kept as the bytes that came, since signatures are over them.
+    /// `AuthenticatorData::from_slice_exact` decodes them.
+    pub auth_data: Bytes,
     /// 0x03: the signature of the authenticator data and the client data hash.
     pub signature: Bytes,
     /// 0x04: the user account of the credential. Without user verification, the authenticator MUST NOT
@@ -63,7 +63,7 @@ impl TableRecord for Response {
     fn blank(alloc: Global) -> Response {
         Response {
             credential: None,
-            auth_data: AuthenticatorDataBytes::empty(alloc),
+            auth_data: Bytes::empty(alloc),
             signature: Bytes::empty(alloc),
             user: None,
             number_of_credentials: None,
@@ -76,7 +76,7 @@ impl TableRecord for Response {
     fn put<S: Source>(&mut self, alloc: Global, number: u8, source: &mut S) -> Result<(), Refusal> {
         match number {
             1 => set_present(&mut self.credential, alloc, source),
-            2 => set(&mut self.auth_data, alloc, source),
+            2 => set_bytes(&mut self.auth_data, alloc, source),
             3 => set_bytes(&mut self.signature, alloc, source),
             4 => set_present(&mut self.user, alloc, source),
             5 => set_present(&mut self.number_of_credentials, alloc, source),
@@ -104,7 +104,7 @@ impl TableRecord for Response {
 }
 
 impl TableMessage for Response {
-    ghost cost = { 9 };
+    ghost cost = { 5 };
 
     fn kept(&self) -> Option<&Kept> {
         match &self.unsigned_extension_outputs {

@@ -1,17 +1,14 @@
 //! Laws about authenticatorMakeCredential responses. Each is the contract of a function that does
 //! nothing.
+ghost use Rattle.std.specs.Prelude.{true};
 ghost use Rattle.passkey_kinds.specs.Numbered.{MessagesAreReadBack, is_shallow};
 ghost use Rattle.passkey_kinds.specs.Words.{WrittenIsCanonical, plain_tree};
 ghost use Rattle.passkey_registered.specs.make_credential.McResponse.{mc_response, mc_response_kept};
-
-use crate::make_credential::Response;
-use passkey_kinds::TableRecord;
 
 /// The encoding of a coherent response, whatever bytes follow, decodes to the response.
 pub fn written_response_is_read_back()
     ensures { MessagesAreReadBack true (λ r. r) mc_response }
 {
-    <Response as TableRecord>::lawful();
     passkey_cbor::laws::written_is_leading_item();
 }
 

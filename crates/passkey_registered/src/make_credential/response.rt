@@ -1,16 +1,17 @@
 //! authenticatorMakeCredential responses.
 ghost use Rattle.std.specs.Prelude.{◌≡◌};
+ghost use Rattle.passkey_kinds.specs.Numbered.{is_shallow, numbered_fields};
+ghost use Rattle.passkey_kinds.specs.Words.{EachFits, places_of, plain_tree};
 ghost use Rattle.passkey_registered.specs.make_credential.McResponse.{mc_response};
 
-use crate::authenticator_data::AuthenticatorDataBytes;
-use crate::exact::set_present;
+use crate::exact::{set_bytes, set_present};
 use crate::kept_map::{KeptMap, is_room_for};
 use crate::large_blob_key::LargeBlobKey;
-use passkey_bytes::Text;
+use passkey_bytes::{Bytes, Text};
 use passkey_cbor::Cursor;
 use passkey_kinds::{
-    Fault, Message, OutOfMemory, Refusal, Row, Sink, Source, TableRecord, WriteFault, read_message,
-    set, write_message,
+    Fault, Message, OutOfMemory, Record, Refusal, Row, Sink, Source, ToCborMap, WriteFault,
+    read_message, set, write_message,
 };
 use std::alloc::Global;
 
@@ -20,8 +21,9 @@ use std::alloc::Global;
 pub struct Response {
     /// 0x01: the attestation statement format identifier.
     pub fmt: Text,
-    /// 0x02: the authenticator data, as the bytes that came.
-    pub auth_data: AuthenticatorDataBytes,
+    /// 0x02: the authenticator data, kept as the bytes that came, since signatures are over them.
+    /// `AuthenticatorData::from_slice_exact` decodes them.
+    pub auth_data: Bytes,
     /// 0x03: the attestation statement, kept undecoded.
     pub att_stmt: Option<KeptMap>,
     /// 0x04: whether an enterprise attestation was returned. An absent member means false.
@@ -32,8 +34,15 @@ pub struct Response {
     pub unsigned_extension_outputs: Option<KeptMap>,
 }
 
-impl TableRecord for Response {
-    ghost table = { mc_response };
+/// It keeps two items, so it is no `TableMessage`.
+impl Record for Response {
+    ghost parts = { λ r. r };
+
+    ghost fields = { numbered_fields mc_response };
+
+    ghost tree = { plain_tree mc_response };
+
+    ghost coherent = { is_shallow mc_response };
 
     fn is_numbered() -> bool {
         true
@@ -53,7 +62,7 @@ impl TableRecord for Response {
     fn blank(alloc: Global) -> Response {
         Response {
             fmt: Text::empty(alloc),
-            auth_data: AuthenticatorDataBytes::empty(alloc),
+            auth_data: Bytes::empty(alloc),
             att_stmt: None,
             ep_att: None,
             large_blob_key: None,
@@ -64,7 +73,7 @@ impl TableRecord for Response {
     fn put<S: Source>(&mut self, alloc: Global, number: u8, source: &mut S) -> Result<(), Refusal> {
         match number {
             1 => set(&mut self.fmt, alloc, source),
-            2 => set(&mut self.auth_data, alloc, source),
+            2 => set_bytes(&mut self.auth_data, alloc, source),
             3 => set_present(&mut self.att_stmt, alloc, source),
             4 => set_present(&mut self.ep_att, alloc, source),
             5 => set_present(&mut self.large_blob_key, alloc, source),
@@ -72,6 +81,12 @@ impl TableRecord for Response {
             _ => Err(Refusal::Refused),
         }
     }
+}
+
+impl ToCborMap for Response {
+    ghost places = { λ r. places_of mc_response.members r };
+
+    ghost holds = { λ r. EachFits mc_response.members r };
 
     fn put_members<S: Sink>(&self, alloc: Global, sink: &mut S) -> Result<(), OutOfMemory> {
         sink.put(alloc, 1_u8, &self.fmt)?;
@@ -84,12 +99,11 @@ impl TableRecord for Response {
     }
 
     #[tactic(auto, using(crate::proofs::Responses::mc_response_law))]
-    fn lawful() {}
+    fn ordered() {}
 }
 
-/// A response keeps two items, so it is no `TableMessage`.
 impl Message for Response {
-    ghost cost = { 9 };
+    ghost cost = { 5 };
 
     fn read(alloc: Global, cursor: &mut Cursor<'_>) -> Result<Response, Fault> {
         read_message(alloc, cursor)
