@@ -2,11 +2,11 @@
 -- canonical form.
 use Rattle.passkey_kinds.proofs.Around.{AtMost}
 use Rattle.passkey_kinds.proofs.Back.{Backs, are_distinct, have_rows, kind_back, missing_of, numbers}
-use Rattle.passkey_kinds.proofs.Common.{AllCanonical, AtMostOneLeadingItem, Bool, EachFits, IsOrdered, IsReadBack, IsWritable, Item, KeysAscend, List, None, Option, PlainTable, ReadIsCoherent, Some, WrittenIsCanonical, WrittenIsLeadingItem, and_from, and_parts, arith, depth, le-leb, leb-true, members_of, places_of, plain_tree, read_item, record_kind, refl, same_tests, table_of, true, ℕ, ◌&&◌, ◌+◌, ◌++◌, ◌<◌, ◌≡◌, ◌≤◌, option_map}
+use Rattle.passkey_kinds.proofs.Common.{AllCanonical, AtMostOneLeadingItem, EachFits, IsOrdered, IsReadBack, IsWritable, Item, KeysAscend, List, None, Option, PlainTable, ReadIsCoherent, Some, WrittenIsCanonical, WrittenIsLeadingItem, and_from, and_parts, arith, depth, le-leb, leb-true, members_of, places_of, plain_tree, read_item, record_kind, refl, same_tests, table_of, true, ℕ, ◌&&◌, ◌+◌, ◌++◌, ◌≡◌, ◌≤◌, option_map}
 use Rattle.passkey_kinds.proofs.Keeping.{Keeps, record_keeps}
 use Rattle.passkey_kinds.proofs.Levels.{EachPlace, PlaceHas, of_record as levels_of, record_within}
 use Rattle.passkey_kinds.proofs.Numbered.{IsKeeping, keeping_law, long_back}
-use Rattle.passkey_kinds.proofs.Ordered.{IsPlain, Rule, ascend, canonical_of, few_levels, in_order, keys_ascend, number_plain, of_record, ordered_of, record_ordered}
+use Rattle.passkey_kinds.proofs.Ordered.{Rule, ascend, canonical_of, few_levels, in_order, keys_ascend, of_record, ordered_of, record_ordered}
 use Rattle.passkey_kinds.proofs.Steps.{anything, no_more, plainly, puts_default, puts_value, shortest_head, text_back, truth_back, ◌▸◌}
 use Rattle.passkey_kinds.specs.Message.{kept_if_some}
 use Rattle.passkey_kinds.specs.Numbered.{has_room, is_shallow, numbered_fields}
@@ -16,7 +16,7 @@ use Rattle.passkey_registered.proofs.KeptValues.{map_around, map_back}
 use Rattle.passkey_registered.specs.Kept.{both_kept}
 use Rattle.passkey_registered.specs.get_assertion.GaResponse.{ga_response}
 use Rattle.passkey_registered.specs.make_credential.McResponse.{mc_response}
-use Rattle.std.specs.Prelude.{[], ◌∷◌, pos}
+use Rattle.std.specs.Prelude.{[], ◌∷◌}
 use Rattle.passkey_kinds.specs.Tree.{number_tree}
 
 -- ---- responses to use a credential keep one item
@@ -130,10 +130,25 @@ mc_response_law = keeps_two mc_response (λ r. r.att_stmt) (λ r. r.unsigned_ext
     (λ Q rule r x y. search (rule.holds, plainly) depth 14)
     (λ Q r each. search) (tt, tt)
     (λ i less.
-    let few : depth i ≤ 255 + 1 = omega (arith, less) in
-    (λ x v r l e h. h, (λ x v r l e h. h, (λ x v r l e h. (present_keeps map_around 255 (depth i) x v e l few, h.1),
-    (λ x v r l e h. h, (λ x v r l e h. h, (λ x v r l e h. (h.0, present_keeps map_around 255 (depth i) x v e l few),
-    tt))))))) (λ r fits.
+    let few : depth i ≤ 255 + 1 = omega (arith, less) in (
+      λ x v r l e h. h,
+      (
+        λ x v r l e h. h,
+        (
+          λ x v r l e h. (present_keeps map_around 255 (depth i) x v e l few, h.1),
+          (
+            λ x v r l e h. h,
+            (
+              λ x v r l e h. h,
+              (
+                λ x v r l e h. (h.0, present_keeps map_around 255 (depth i) x v e l few),
+                tt,
+              ),
+            ),
+          ),
+        ),
+      ),
+    )) (λ r fits.
     puts_value text_back r.fmt tt ▸
     puts_value exact_bytes_back r.auth_data tt ▸
     puts_default (present_place map_back r.att_stmt (search)) refl ▸

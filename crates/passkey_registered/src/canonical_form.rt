@@ -113,10 +113,7 @@ pub fn canonical_vec(alloc: Global, item: &Value) -> Result<Vec<u8>, OutOfMemory
 /// after the message. The errors are those of `Message::from_slice`, but that `OutOfMemory` may also come
 /// in place of another one.
 #[tactic(auto, using(crate::proofs::SameForm::canonical_again))]
-pub fn canonical_message<M: Message>(
-    alloc: Global,
-    bytes: &[u8],
-) -> Result<(Vec<u8>, usize), Fault>
+pub fn canonical_message<M: Message>(alloc: Global, bytes: &[u8]) -> Result<(Vec<u8>, usize), Fault>
     ensures encoded { IfOk result (λ r. IsMessageInForm M.fields bytes.now r.0.items r.1) }
     ensures refused { IfErr result (λ e. IsFaultOf M.fields bytes.now e) }
     ensures same { IsCanonical bytes.now → IfOk result (λ r. r.0.items ≡ bytes.now) }

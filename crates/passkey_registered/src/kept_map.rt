@@ -5,9 +5,7 @@ ghost use Rattle.passkey_kinds.specs.Words.{Item};
 ghost use Rattle.passkey_registered.specs.Kept.{IsMap, kept_map, map_from};
 
 use passkey_cbor::{Cursor, Encoder, Value};
-use passkey_kinds::{
-    Form, FromCbor, Kept, Look, OutOfMemory, Refusal, ToCbor, Wanted, looked,
-};
+use passkey_kinds::{Form, FromCbor, Kept, Look, OutOfMemory, Refusal, ToCbor, Wanted, looked};
 use std::alloc::Global;
 use std::marker::Model;
 

@@ -6,9 +6,7 @@ use crate::exact::{set_bytes, set_present};
 use crate::kept_map::KeptMap;
 use crate::large_blob_key::LargeBlobKey;
 use passkey_bytes::Bytes;
-use passkey_kinds::{
-    Kept, OutOfMemory, Refusal, Row, Sink, Source, TableMessage, TableRecord,
-};
+use passkey_kinds::{Kept, OutOfMemory, Refusal, Row, Sink, Source, TableMessage, TableRecord};
 use std::alloc::Global;
 
 /// An authenticatorGetAssertion or authenticatorGetNextAssertion response, by the standard alone (CTAP
