@@ -104,6 +104,8 @@ typedef unsigned char puffgrit_bool; /* 0 or 1 */
 #define PUFFGRIT_KIND_TPM_PUB_AREA 43u
 #define PUFFGRIT_KIND_CTAP_MC_REQUEST 44u
 #define PUFFGRIT_KIND_CTAP_GA_REQUEST 45u
+#define PUFFGRIT_KIND_CTAP_MC_RESPONSE 46u
+#define PUFFGRIT_KIND_CTAP_GA_RESPONSE 47u
 
 /* The statuses of calls that decode. A fault's status is in the first byte, and the number of its member in the second. */
 #define PUFFGRIT_OK 0u

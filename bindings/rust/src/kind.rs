@@ -95,4 +95,8 @@ pub enum Kind {
     CtapMcRequest = 44,
     /// An authenticatorGetAssertion request by the standard alone (CTAP 2.2, section 6.2).
     CtapGaRequest = 45,
+    /// An authenticatorMakeCredential response by the standard alone (CTAP 2.2, section 6.1).
+    CtapMcResponse = 46,
+    /// An authenticatorGetAssertion response by the standard alone (CTAP 2.2, section 6.2).
+    CtapGaResponse = 47,
 }
