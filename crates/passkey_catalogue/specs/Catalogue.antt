@@ -67,6 +67,7 @@ ctap_definition ctap.CtapMakeRequest = by_table registered.make_credential.McReq
 ctap_definition ctap.CtapGetRequest = by_table registered.get_assertion.GaRequest.ga_request
 ctap_definition ctap.CtapMakeResponse = by_table registered.make_credential.McResponse.mc_response
 ctap_definition ctap.CtapGetResponse = by_table registered.get_assertion.GaResponse.ga_response
+ctap_definition ctap.AttestationObject = by_table registered.make_credential.AttestationObject.attestation_object
 
 abbrev pub definition : Kind → Definition Form
 definition (kind.Bytes k) = bytes_definition k

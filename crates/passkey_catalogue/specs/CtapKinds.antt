@@ -41,6 +41,7 @@ ctap_rows = (codes "pin-request", kind.PinRequest, codes "CTAP 2.1, section 6.5"
     ∷ (codes "ctap-ga-request", kind.CtapGetRequest, codes "CTAP 2.2, section 6.2")
     ∷ (codes "ctap-mc-response", kind.CtapMakeResponse, codes "CTAP 2.2, section 6.1")
     ∷ (codes "ctap-ga-response", kind.CtapGetResponse, codes "CTAP 2.2, section 6.2")
+    ∷ (codes "attestation-object", kind.AttestationObject, codes "WebAuthn Level 3, section 6.5.4")
     ∷ []
 
 abbrev pub ctap_kinds : Names CtapKind

@@ -77,6 +77,8 @@ pub enum CtapKind {
     CtapMakeResponse,
     /// An authenticatorGetAssertion response by the standard alone (CTAP 2.2, section 6.2).
     CtapGetResponse,
+    /// An attestation object (WebAuthn Level 3, section 6.5.4).
+    AttestationObject,
 }
 
 /// The kinds: the name of each, its value, and the standard that defines what its inputs are, with the
@@ -119,6 +121,7 @@ macro_rules! kinds {
             ("ctap-ga-request", CtapKind::CtapGetRequest, "CTAP 2.2, section 6.2"),
             ("ctap-mc-response", CtapKind::CtapMakeResponse, "CTAP 2.2, section 6.1"),
             ("ctap-ga-response", CtapKind::CtapGetResponse, "CTAP 2.2, section 6.2"),
+            ("attestation-object", CtapKind::AttestationObject, "WebAuthn Level 3, section 6.5.4"),
         }
     };
 }

@@ -57,6 +57,7 @@ macro_rules! of_ctap_kind {
             CtapKind::CtapGetRequest => $visitor.visit_message::<registered::get_assertion::Request>(),
             CtapKind::CtapMakeResponse => $visitor.visit_message::<registered::make_credential::Response>(),
             CtapKind::CtapGetResponse => $visitor.visit_message::<registered::get_assertion::Response>(),
+            CtapKind::AttestationObject => $visitor.visit_message::<registered::make_credential::AttestationObject>(),
         }
     };
 }

@@ -1,2 +1,3 @@
+pub mod AttestationObject
 pub mod McRequest
 pub mod McResponse

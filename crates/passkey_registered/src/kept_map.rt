@@ -42,6 +42,13 @@ impl KeptMap {
         }
     }
 
+    /// Returns the item.
+    pub fn into_item(self) -> Kept
+        ensures { result ≡ self }
+    {
+        self.item
+    }
+
     /// Lends the item.
     pub fn item(&self) -> &Kept
         ensures { result.now ≡ self.now }

@@ -118,6 +118,12 @@ impl Copied for registered::make_credential::Response {
     }
 }
 
+impl Copied for registered::make_credential::AttestationObject {
+    fn replace_parts(&mut self, alloc: Global, tries: &mut Tries) -> Result<(), OutOfMemory> {
+        tries.replace(alloc, &mut self.att_stmt)
+    }
+}
+
 impl Copied for registered::get_assertion::Response {
     fn replace_parts(&mut self, alloc: Global, tries: &mut Tries) -> Result<(), OutOfMemory> {
         tries.replace_some(alloc, &mut self.unsigned_extension_outputs)
