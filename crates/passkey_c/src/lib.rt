@@ -5,17 +5,21 @@
 
 ghost use Rattle.std.specs.Prelude.{◌≡◌};
 
+mod encode;
 mod explain;
 mod explain_json;
 mod json;
 mod rewrite;
 mod status;
+mod values;
 mod verdict;
 mod write;
 
+pub use encode::puffgrit_encode;
 pub use explain::puffgrit_explain;
 pub use json::puffgrit_json;
 pub use rewrite::puffgrit_rewrite;
+pub use values::puffgrit_values;
 pub use verdict::Refusal;
 
 /// The version of this interface: 3. A call or a struct that changes raises it.

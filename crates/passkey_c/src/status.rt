@@ -1,8 +1,9 @@
 //! The statuses of calls that decode.
 ghost use Rattle.std.specs.Prelude.{◌≡◌, ◌+◌, ◌*◌, ◌<◌};
-ghost use Rattle.passkey_c.specs.Statuses.{data_status, json_status, message_status, statement_status, status_of};
+ghost use Rattle.passkey_c.specs.Statuses.{data_status, json_status, message_status, statement_status, status_of, values_status};
 
 use passkey_attestation::StatementFault;
+use passkey_catalogue::ValuesFault;
 use passkey_cose::CoseError;
 use passkey_json::JsonFault;
 use passkey_kinds::Fault;
@@ -82,6 +83,17 @@ pub(crate) fn status_of(fault: RunFault) -> u32
         RunFault::BadJson => 26,
         RunFault::OutOfMemory => 2,
         RunFault::UnknownKind => 3,
-        RunFault::BadHex | RunFault::InputFailed | RunFault::OutputFailed => 27,
+        RunFault::BadHex | RunFault::InputFailed | RunFault::OutputFailed => 255,
+    }
+}
+
+/// Returns the status of values that aren't encoded.
+pub(crate) fn values_status(fault: &ValuesFault) -> u32
+    ensures { result ≡ values_status fault.now }
+{
+    match fault {
+        ValuesFault::NoValues => 3,
+        ValuesFault::NoItem(_, _) => 27,
+        ValuesFault::Run(fault) => status_of(*fault),
     }
 }

@@ -46,7 +46,7 @@ pub(crate) fn refused_from(stop: Malformed, len: usize) -> Refusal
 }
 
 /// Copies as much of the text as there is room for to the beginning of the output.
-fn put_front(out: &mut [u8], text: &[u8])
+pub(crate) fn put_front(out: &mut [u8], text: &[u8])
     ensures { out.new ≡ take (length out.old) text.now ++ drop (length text.now) out.old }
 {
     let len = text.len().min(out.len());

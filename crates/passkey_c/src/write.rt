@@ -6,7 +6,7 @@ use crate::status::status_of;
 use passkey_rewrite::RunFault;
 
 /// Copies the bytes to the beginning of the output.
-fn put(out: &mut [u8], bytes: &[u8])
+pub(crate) fn put(out: &mut [u8], bytes: &[u8])
     requires { length bytes.now ≤ length out.old }
     ensures { out.new ≡ bytes.now ++ drop (length bytes.now) out.old }
 {

@@ -1,0 +1,52 @@
+//! Inputs as values of JSON, for C.
+ghost use Rattle.std.specs.Prelude.{◌≡◌, IfOk, IfErr};
+ghost use Rattle.passkey_c.specs.Values.{HasNoValues, WritesValues};
+ghost use Rattle.passkey_catalogue.specs.Catalogue.{definition, kind_numbered};
+ghost use Rattle.passkey_catalogue.specs.Values.{ShowsValues};
+
+use crate::write::write;
+use passkey_catalogue::{Kind, ValuesFault, values};
+use passkey_rewrite::RunFault;
+use std::alloc::Global;
+
+/// Returns the values of the input as JSON, and how many of its bytes they are made from.
+fn values_as(alloc: Global, kind: Kind, input: &[u8]) -> Result<(Vec<u8>, usize), RunFault>
+    ensures ok { IfOk result (λ made. ShowsValues (definition kind) input.now made.0.items made.1) }
+    ensures err { IfErr result (HasNoValues (definition kind) input.now) }
+{
+    match values(alloc, kind, input) {
+        Ok((text, len)) => Ok((text.into_bytes(), len)),
+        Err(ValuesFault::Run(fault)) => Err(fault),
+        Err(_) => Err(RunFault::UnknownKind),
+    }
+}
+
+/// Writes the data item at the beginning of the input, which this kind accepts, as JSON that is this
+/// item and nothing else, so that puffgrit_encode encodes it again, changed or not: to the beginning of
+/// `out`, and the JSON's length to `len`; and to `read` how many bytes of the input the item takes.
+/// Members have their names, and those that the message's table hasn't stay. Integers, texts, arrays and
+/// objects are themselves, and byte strings base64url without padding where the table wants bytes; what
+/// JSON can't say otherwise is an object of one member, as {"$bytes": "AQ"} or {"$float": "1.5"}.
+/// `passkey_inspect --values` prints the same. puffgrit_json is for people, and drops what this keeps.
+///
+/// Returns what puffgrit_rewrite returns, with the same faults, and leaves `out`, `len` and `read` as it
+/// does; PUFFGRIT_UNKNOWN_KIND also for a kind whose inputs have no such JSON. (RFC 8949; RFC 8259; CTAP
+/// 2.1, section 6.)
+#[unsafe(no_mangle)]
+pub extern "C" fn puffgrit_values(
+    alloc: Global,
+    kind: u32,
+    input: &[u8],
+    read: &mut usize,
+    out: &mut [u8],
+    len: &mut usize,
+) -> u32
+    ensures { WritesValues (kind_numbered kind) input.now
+        (record { read = read.old; out = out.old; len = len.old })
+        (record { read = read.new; out = out.new; len = len.new }) result }
+{
+    match Kind::from_number(kind as usize) {
+        Some(kind) => write(values_as(alloc, kind, input), read, out, len),
+        None => 3,
+    }
+}
