@@ -37,7 +37,7 @@ def deep():
         for levels in [256, 257]:
             item, inner = (level * n + b"\x00" + end * n for n in (levels, levels - 1))
             info = b"\xa3\x01\x81\x68FIDO_2_0\x03\x50" + bytes(16) + b"\x18\x60" + inner
-            for call in ["rewrite", "json", "explain"]:
+            for call in ["rewrite", "json", "explain", "values"]:
                 yield from (f"{call} {kind} 60000 {given.hex()}" for kind, given in [(1, item), (7, info)])
 
 
@@ -46,7 +46,7 @@ def requests():
     tool = test_c()
     rows, inputs = tool.rewritings()
     asked = [it for it, _ in [*rows, *tool.examinations()]]
-    asked += [f"{call} {kind} 60000 {given.hex() or '-'}" for call in ["json", "explain"] for kind, given, _ in tool.examined_rows()]
+    asked += [f"{call} {kind} 60000 {given.hex() or '-'}" for call in ["json", "explain", "values"] for kind, given, _ in tool.examined_rows()]
     return [*asked, *deep(), *itertools.islice(tool.mutated_rewritings(inputs), MUTATED)], tool.mutated_looks()
 
 

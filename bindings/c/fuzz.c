@@ -84,6 +84,30 @@ static void examine(uint32_t kind, const uint8_t *bytes, size_t len) {
     if (status >= PUFFGRIT_FAULT_DECODE_FAILED) want(told > 0 && refusal.offset <= len && refusal.len <= len - refusal.offset);
 }
 
+/* The values of an input are encoded as the input is; and the input as values, in no bytes, writes none. */
+static void encode(uint32_t kind, const uint8_t *bytes, size_t len) {
+    uint8_t none = 0xa5, *values, *out, *again;
+    size_t read = 0, shown = 0, needed = 0, size = 0, told = 0;
+    uint32_t wanted = puffgrit_rewrite(kind, bytes, len, &read, &none, 0, &needed);
+    uint32_t status = puffgrit_values(kind, bytes, len, &shown, &none, 0, &size);
+    want(status == wanted || status == PUFFGRIT_UNKNOWN_KIND);
+    if (status == PUFFGRIT_TOO_SHORT) {
+        values = malloc(size);
+        out = malloc(needed);
+        if (!values || !out) exit(0);
+        want(puffgrit_values(kind, bytes, len, &shown, values, size, &size) == PUFFGRIT_OK && shown == read);
+        want(puffgrit_encode(kind, values, size, out, needed - 1, &told, &none, 0, &shown) == PUFFGRIT_TOO_SHORT && told == needed);
+        want(puffgrit_encode(kind, values, size, out, needed, &told, &none, 0, &shown) == PUFFGRIT_OK && shown == read);
+        again = encoding_of(kind, bytes, len, &status, &read, &needed);
+        want(again && memcmp(again, out, needed) == 0);
+        free(again);
+        free(values);
+        free(out);
+    }
+    status = puffgrit_encode(kind, bytes, len, &none, 0, &needed, &none, 0, &told);
+    want(none == 0xa5 && status != PUFFGRIT_OK);
+}
+
 static void look(const uint8_t *bytes, size_t len) {
     puffgrit_item item;
     puffgrit_auth_data parts;
@@ -102,6 +126,7 @@ int LLVMFuzzerTestOneInput(const uint8_t *data, size_t size) {
     look(bytes, size - 1);
     rewrite(data[0] % PUFFGRIT_KIND_TPM_PUB_AREA + 1, bytes, size - 1);
     examine(data[0] % PUFFGRIT_KIND_TPM_PUB_AREA + 1, bytes, size - 1);
+    encode(data[0] % PUFFGRIT_KIND_TPM_PUB_AREA + 1, bytes, size - 1);
     free(bytes);
     return 0;
 }

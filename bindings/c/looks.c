@@ -2,9 +2,12 @@
 
    len HEX, canonical HEX, item OFFSET HEX, member OFFSET KEY HEX, named OFFSET NAME-IN-HEX HEX, auth HEX, all OFFSET HEX (these six,
    with some keys), client 0-OR-1 TYPE.CHALLENGE.ORIGIN.TOP-ORIGIN HEX (whether the last is required, and each in hexadecimal),
-   rewrite KIND ROOM HEX, json KIND ROOM HEX, explain KIND ROOM HEX; with LOOKS_ALONE only the first eight. `-` is no bytes. An answer to `rewrite` and `json` is the status, how many bytes were read, the length and, in hexadecimal, the output if the
-   status is 0, and `changed` if bytes after it changed; to `explain` the
-   status, how many bytes were read, the offset and the length of what is refused, the length of the text and the text in hexadecimal. */
+   rewrite KIND ROOM HEX, json KIND ROOM HEX, values KIND ROOM HEX, explain KIND ROOM HEX, encode KIND ROOM.ROOM-OF-THE-TEXT HEX, and
+   back KIND HEX; with LOOKS_ALONE only the first eight. `-` is no bytes. An answer to `rewrite`, `json` and `values` is the status, how many
+   bytes were read, the length and, in hexadecimal, the output if the status is 0, and `changed` if bytes after it changed; to `explain` the
+   status, how many bytes were read, the offset and the length of what is refused, the length of the text and the text in hexadecimal; to
+   `encode` the status, the length, the length of the text, and the output and the text. `back` compares the encoding of the input's values
+   with the input rewritten, each in an output of exactly its length: `same`, `none` where there are no values, or `other`. */
 #include <inttypes.h>
 #include <stdio.h>
 #include <stdlib.h>
@@ -125,6 +128,59 @@ static void written(writes *call, uint32_t kind, size_t room, buffer input) {
     free(out);
 }
 
+/* Encodes into an output of exactly so many bytes, with so many for the text. */
+static void encode(uint32_t kind, const char *rooms, buffer json) {
+    char *rest;
+    size_t room = (size_t)strtoull(rooms, &rest, 10), most = (size_t)strtoull(rest + 1, 0, 10), len = 77, size = 88;
+    uint8_t *out = unset(room), *why = unset(most);
+    uint32_t status = puffgrit_encode(kind, json.bytes, json.len, out, room, &len, why, most, &size);
+    printf("%" PRIu32 " %zu %zu ", status, len, size);
+    print_output(out, room, status == PUFFGRIT_OK ? len : 0);
+    putchar(' ');
+    print_output(why, most, size == 88 && status != PUFFGRIT_FAULT_NO_ITEM ? 0 : size < most ? size : most);
+    free(out);
+    free(why);
+}
+
+/* What a call makes of an input, in memory of exactly its length; none if it makes nothing. */
+static buffer made(writes *call, uint32_t kind, buffer input, uint32_t *status, size_t *read) {
+    buffer it = {unset(0), 0};
+    *status = call(kind, input.bytes, input.len, read, it.bytes, 0, &it.len);
+    if (*status != PUFFGRIT_TOO_SHORT) return it;
+    free(it.bytes);
+    it.bytes = unset(it.len);
+    *status = call(kind, input.bytes, input.len, read, it.bytes, it.len, &it.len);
+    return it;
+}
+
+static int same(buffer a, buffer b) {
+    return a.len == b.len && memcmp(a.bytes, b.bytes, a.len) == 0;
+}
+
+/* Whether the values are encoded as this, in an output of exactly its length. */
+static int encodes(uint32_t kind, buffer json, buffer wanted) {
+    buffer out = {unset(wanted.len), 0};
+    uint8_t none = 0;
+    size_t size = 88;
+    int is = puffgrit_encode(kind, json.bytes, json.len, out.bytes, wanted.len, &out.len, &none, 0, &size) == PUFFGRIT_OK
+             && same(out, wanted) && size == 88;
+    free(out.bytes);
+    return is;
+}
+
+static void back(uint32_t kind, buffer input) {
+    uint32_t status, shown;
+    size_t read = 55, taken = 55;
+    buffer wanted = made(puffgrit_rewrite, kind, input, &status, &read), values = made(puffgrit_values, kind, input, &shown, &taken);
+    if (shown == PUFFGRIT_UNKNOWN_KIND || (shown == status && status != PUFFGRIT_OK)) {
+        printf("none");
+    } else {
+        printf("%s", shown == status && taken == read && encodes(kind, values, wanted) ? "same" : "other");
+    }
+    free(wanted.bytes);
+    free(values.bytes);
+}
+
 static void explain(uint32_t kind, size_t room, buffer input) {
     uint8_t *out = unset(room);
     size_t read = 55, len = 77;
@@ -159,6 +215,9 @@ int main(void) {
 #ifndef LOOKS_ALONE
         if (!strcmp(call, "rewrite")) written(puffgrit_rewrite, (uint32_t)offset, (size_t)strtoull(second, 0, 10), input);
         if (!strcmp(call, "json")) written(puffgrit_json, (uint32_t)offset, (size_t)strtoull(second, 0, 10), input);
+        if (!strcmp(call, "values")) written(puffgrit_values, (uint32_t)offset, (size_t)strtoull(second, 0, 10), input);
+        if (!strcmp(call, "encode")) encode((uint32_t)offset, second, input);
+        if (!strcmp(call, "back")) back((uint32_t)offset, input);
         if (!strcmp(call, "explain")) explain((uint32_t)offset, (size_t)strtoull(second, 0, 10), input);
 #endif
         putchar('\n');

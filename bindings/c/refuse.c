@@ -62,6 +62,15 @@ static uint32_t explained(uint32_t kind, struct answer *answer) {
     return puffgrit_explain(kind, input, input_len, &answer->read, &answer->refusal, answer->out, ROOM, &answer->len);
 }
 
+static uint32_t as_values(uint32_t kind, struct answer *answer) {
+    return puffgrit_values(kind, input, input_len, &answer->read, answer->out, ROOM, &answer->len);
+}
+
+/* The input is the values; the second half of the output is for the text. */
+static uint32_t encoded(uint32_t kind, struct answer *answer) {
+    return puffgrit_encode(kind, input, input_len, answer->out, ROOM / 2, &answer->len, answer->out + ROOM / 2, ROOM / 2, &answer->read);
+}
+
 static void ask(calls *call, uint32_t kind, unsigned long number, struct answer *answer) {
     memset(answer->out, UNSET, ROOM);
     answer->read = answer->len = answer->refusal.offset = answer->refusal.len = UNSET;
@@ -106,6 +115,31 @@ static void refuse_each(calls *call, uint32_t kind) {
     }
 }
 
+static uint8_t values[ROOM];
+static size_t values_len;
+
+/* Encodes the values with these characters before and after them. */
+static void refuse_around(const char *before, const char *after, uint32_t kind) {
+    size_t front = strlen(before), back = strlen(after);
+    if (front + values_len + back > ROOM) return;
+    memcpy(input, before, front);
+    memcpy(input + front, values, values_len);
+    memcpy(input + front + values_len, after, back);
+    input_len = front + values_len + back;
+    refuse_each(encoded, kind);
+}
+
+/* Encodes the values of the input, an array of them, which most kinds refuse, and an object that is no data item. */
+static void refuse_values(uint32_t kind) {
+    ask(as_values, kind, 0, &wanted);
+    if (wanted.status != PUFFGRIT_OK) return;
+    values_len = wanted.len;
+    memcpy(values, wanted.out, values_len);
+    refuse_around("", "", kind);
+    refuse_around("[", "]", kind);
+    refuse_around("{\"$bytes\":", "}", kind);
+}
+
 int main(void) {
     unsigned int kind, byte;
     int end;
@@ -121,6 +155,8 @@ int main(void) {
         refuse_each(rewritten, kind);
         refuse_each(as_json, kind);
         refuse_each(explained, kind);
+        refuse_each(as_values, kind);
+        refuse_values(kind);
     }
     printf("%lu calls, %lu wrong\n", made, wrong);
     return 0;

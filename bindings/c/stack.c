@@ -1,7 +1,8 @@
 /* stack: answers requests from standard input, one a line, for tools/test-c: how many bytes of the stack calls take.
 
    check HEX: puffgrit_is_canonical; look HEX: the one of the other calls that look which takes the most; with LOOKS_ALONE only these.
-   rewrite KIND HEX: puffgrit_rewrite; show KIND HEX: the one of puffgrit_json and puffgrit_explain. `-` is no bytes. */
+   rewrite KIND HEX: puffgrit_rewrite; show KIND HEX: the one of the other calls that allocate, of which puffgrit_encode is given the
+   input, and what puffgrit_values makes of it. `-` is no bytes. */
 #define _POSIX_C_SOURCE 200809L
 #include <pthread.h>
 #include <stdio.h>
@@ -41,7 +42,7 @@ static void *look(void *unused) {
 
 #ifndef LOOKS_ALONE
 static uint32_t kind;
-static uint8_t output[16 * MOST];
+static uint8_t output[16 * MOST], encoding[MOST], text[MOST];
 
 static void *again(void *unused) {
     size_t read, len;
@@ -56,6 +57,9 @@ static void *show(void *unused) {
     (void)unused;
     (void)puffgrit_json(kind, input, input_len, &read, output, sizeof output, &len);
     (void)puffgrit_explain(kind, input, input_len, &read, &refusal, output, sizeof output, &len);
+    (void)puffgrit_encode(kind, input, input_len, encoding, sizeof encoding, &read, text, sizeof text, &read);
+    if (puffgrit_values(kind, input, input_len, &read, output, sizeof output, &len) == PUFFGRIT_OK)
+        (void)puffgrit_encode(kind, output, len, encoding, sizeof encoding, &read, text, sizeof text, &read);
     return 0;
 }
 #endif

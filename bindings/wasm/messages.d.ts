@@ -13,7 +13,8 @@ export class Fault extends Error {
   fault: string;
   /** The number of the message's member that it is about. */
   member: number | null;
-  /** Where and why, as "user.id: a byte string is wanted (offset 58, length 10)"; null for kinds that `explain` hasn't. */
+  /** Where and why, as "user.id: a byte string is wanted (offset 58, length 10)"; null for kinds that `explain` hasn't. Of `encode`
+   * without an offset. */
   explanation: string | null;
   /** The offset and the length of what is refused. */
   offset: number | null;
@@ -30,6 +31,11 @@ export interface PuffgritAll extends Puffgrit {
   decode(kind: string, bytes: Uint8Array): unknown;
   decodeFront(kind: string, bytes: Uint8Array): { value: unknown; read: number };
   explain(kind: string, bytes: Uint8Array): Fault | null;
+  /** What is in the bytes, exactly: byte strings that no table wants as a Uint8Array, integers beyond 2^53 - 1 as a BigInt. */
+  values(kind: string, bytes: Uint8Array): unknown;
+  valuesFront(kind: string, bytes: Uint8Array): { value: unknown; read: number };
+  /** Encodes what `values` returns, changed, or written by hand. A Fault's `explanation` says by its names what is refused. */
+  encode(kind: string, value: unknown): Uint8Array;
 }
 
 export function loadAll(source: BufferSource | WebAssembly.Module): Promise<PuffgritAll>;

@@ -1,4 +1,5 @@
-// Messages, decoded, encoded again and explained by proved code (crates/passkey_c) as WebAssembly, beside the calls that look.
+// Messages, decoded, encoded again, explained, and made of values by proved code (crates/passkey_c) as WebAssembly, beside the calls that
+// look.
 //
 // A kind is one of the names in KINDS; bytes are a Uint8Array, of a JSON text its UTF-8. Bytes after a data item, a message or
 // authenticator data are ignored. What a kind rejects is thrown as a Fault.
@@ -8,10 +9,10 @@ import { instantiate, looks, placing } from "./puffgrit.mjs";
 export * from "./kinds.mjs";
 export * from "./puffgrit.mjs";
 
-const OK = 0, TOO_SHORT = 1, OUT_OF_MEMORY = 2, FIRST_FAULT = 16;
+const OK = 0, TOO_SHORT = 1, OUT_OF_MEMORY = 2, UNKNOWN_KIND = 3, FIRST_FAULT = 16;
 const FAULTS = [
   "DecodeFailed", "NotAMap", "BadKey", "Repeated", "Refused", "Missing", "OutOfRangeIntegerValue", "DuplicateMapKey", "UnexpectedItem",
-  "Float", "BadJson",
+  "Float", "BadJson", "NoItem",
 ];
 const WITH_MEMBER = ["Repeated", "Refused", "Missing"];
 
@@ -31,6 +32,39 @@ function numberOf(kind, kinds) {
   return KINDS.indexOf(kind) + 1;
 }
 
+function base64urlOf(bytes) {
+  const text = btoa(Array.from(bytes, (it) => String.fromCharCode(it)).join(""));
+  return text.replaceAll("+", "-").replaceAll("/", "_").replaceAll("=", "");
+}
+
+const bytesOf = (text) => Uint8Array.from(atob(text.replaceAll("-", "+").replaceAll("_", "/")), (it) => it.charCodeAt(0));
+
+const isBytes = (it) => Object.prototype.toString.call(it) === "[object Uint8Array]";
+
+/** What the JSON of `puffgrit_values` is: bytes of an escape as a Uint8Array, and integers beyond 2 ** 53 - 1 as BigInts. */
+function valueOf(text) {
+  const whole = text.replace(/"(?:[^"\\]|\\.)*"|-?\d{16,}/g, (it) => (it[0] === '"' ? it : `{"$int":"${it}"}`));
+  return JSON.parse(whole, (_, it) => {
+    const [name, ...others] = it !== null && typeof it === "object" && !Array.isArray(it) ? Object.keys(it) : [];
+    if (others.length > 0 || typeof it?.[name] !== "string") return it;
+    if (name === "$bytes") return bytesOf(it.$bytes);
+    if (name !== "$int") return it;
+    return Number.isSafeInteger(Number(it.$int)) ? Number(it.$int) : BigInt(it.$int);
+  });
+}
+
+/** The JSON that a value is. Nothing is converted: a number has to be the integer that it says, and what JSON would leave out is refused. */
+function jsonOf(value) {
+  return JSON.stringify(value, function (name, made) {
+    const it = this[name];
+    if (typeof it === "bigint") return { $int: String(it) };
+    if (isBytes(it)) return { $bytes: base64urlOf(it) };
+    if (typeof it === "number" && !Number.isSafeInteger(it)) throw new RangeError(`${it} is no integer, or has to be a BigInt`);
+    if (["undefined", "function", "symbol"].includes(typeof it)) throw new TypeError(`a value can't be ${typeof it}`);
+    return made;
+  });
+}
+
 /** Returns all calls of a module: of its bytes, or of a WebAssembly.Module. One in which a call trapped has to be loaded again. */
 export async function loadAll(source) {
   const calls = await instantiate(source);
@@ -46,6 +80,31 @@ export async function loadAll(source) {
     const view = new DataView(calls.memory.buffer, place, 32);
     const [read, len, offset, length] = [0, 8, 16, 24].map((k) => Number(view.getBigUint64(k, true)));
     return { status, read, len, offset, length, bytes: new Uint8Array(calls.memory.buffer, out, Math.min(len, room)).slice() };
+  }
+
+  /** Encodes JSON with an output of so many bytes, so many for a text, and a heap that begins after them. */
+  function encoded(number, json, room, most) {
+    const words = new Uint8Array(16);
+    const [given, place, out] = put([json, words], room + most);
+    calls.puffgrit_heap(out + room + most);
+    const [input, output, len, why, size] = [[given, json.length], [out, room], [place], [out + room, most], [place + 8]].map((it) => it.map(BigInt));
+    const status = calls.puffgrit_encode(number, ...input, ...output, ...len, ...why, ...size) >>> 0;
+    const view = new DataView(calls.memory.buffer, place, 16), [made, told] = [0, 8].map((k) => Number(view.getBigUint64(k, true)));
+    const slice = (from, count) => new Uint8Array(calls.memory.buffer, from, count).slice();
+    return { status, len: made, size: told, bytes: slice(out, Math.min(made, room)), why: slice(out + room, Math.min(told, most)) };
+  }
+
+  /** The encoding of what the value is as this kind, one of KINDS, as `rewrite` writes it. */
+  function encode(kind, value) {
+    const number = numberOf(kind, KINDS), json = new TextEncoder().encode(jsonOf(value));
+    for (let room = json.length + 64, most = 1024; ; ) {
+      const { status, len, size, bytes, why } = encoded(number, json, room, most);
+      if (status === OK) return bytes;
+      if (status === OUT_OF_MEMORY) throw new RangeError("puffgrit is out of memory");
+      if (status === UNKNOWN_KIND) throw new RangeError(`no values of the kind ${kind}`);
+      if (status !== TOO_SHORT && size <= most) throw new Fault(status, size === 0 ? {} : { explanation: new TextDecoder().decode(why) });
+      [room, most] = [Math.max(room, len), Math.max(most, size)];
+    }
   }
 
   /** Makes a call with as much room as its output needs. */
@@ -83,6 +142,14 @@ export async function loadAll(source) {
     return { text: new TextDecoder().decode(made.bytes), read: made.read };
   }
 
+  /** What `values` returns, and how many of the bytes were decoded. */
+  function valuesFront(kind, bytes) {
+    const { status, bytes: text, read } = whole("puffgrit_values", numberOf(kind, KINDS), bytes);
+    if (status === OK) return { value: valueOf(new TextDecoder().decode(text)), read };
+    if (status === UNKNOWN_KIND) throw new RangeError(`no values of the kind ${kind}`);
+    throw explain(kind, bytes) ?? new Fault(status);
+  }
+
   /** What `decode` returns, and how many of the bytes were decoded. */
   function decodeFront(kind, bytes) {
     const { text, read } = jsonFront(kind, bytes);
@@ -94,7 +161,9 @@ export async function loadAll(source) {
     rewriteFront,
     jsonFront,
     decodeFront,
+    valuesFront,
     explain,
+    encode,
 
     /** The version of the interface (puffgrit.h). */
     version: () => calls.puffgrit_version() >>> 0,
@@ -104,5 +173,8 @@ export async function loadAll(source) {
 
     /** What is in the bytes, which are of this kind, one of DECODED: members by their names, byte strings in base64url. */
     decode: (kind, bytes) => decodeFront(kind, bytes).value,
+
+    /** What is in the bytes, exactly, so that `encode` makes what `rewrite` does: with unknown members, and escapes of JSON. */
+    values: (kind, bytes) => valuesFront(kind, bytes).value,
   };
 }

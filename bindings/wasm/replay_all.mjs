@@ -25,9 +25,10 @@ function answer(name, kind, room, bytes) {
 
 /** Returns whether messages.mjs says the same. */
 function isSame(name, kind, bytes, { status, words }) {
-  const word = KINDS[kind - 1], kinds = { rewrite: KINDS, json: DECODED, explain: EXPLAINED }[name];
+  const word = KINDS[kind - 1], kinds = { rewrite: KINDS, json: DECODED, explain: EXPLAINED, values: status === 3 ? [] : KINDS }[name];
   try {
-    const made = { rewrite: all.rewriteFront, json: all.decodeFront, explain: all.explain }[name](word, bytes);
+    const made = { rewrite: all.rewriteFront, json: all.decodeFront, explain: all.explain, values: all.valuesFront }[name](word, bytes);
+    if (name === "values" && hexOf(all.encode(word, made.value)) !== hexOf(all.rewrite(word, bytes))) return false;
     if (name !== "explain") return status <= 1 && made.read === words[0];
     if (made === null) return status === 0;
     return status >= 16 && made.offset === words[2] && made.length === words[3] && made.explanation.length === words[1];

@@ -1,5 +1,5 @@
-//! Inputs that are decoded as a kind, encoded again, shown as JSON and explained: what libpuffgrit has
-//! beside the calls that look.
+//! Inputs that are decoded as a kind, encoded again, shown as JSON and explained, and JSON that is
+//! encoded: what libpuffgrit has beside the calls that look.
 
 use crate::{Error, Fault, Kind};
 
@@ -33,6 +33,26 @@ extern "C" {
         out: *mut u8,
         out_len: usize,
         len: *mut usize,
+    ) -> u32;
+    fn puffgrit_values(
+        kind: u32,
+        input: *const u8,
+        input_len: usize,
+        read: *mut usize,
+        out: *mut u8,
+        out_len: usize,
+        len: *mut usize,
+    ) -> u32;
+    fn puffgrit_encode(
+        kind: u32,
+        json: *const u8,
+        json_len: usize,
+        out: *mut u8,
+        out_len: usize,
+        len: *mut usize,
+        why: *mut u8,
+        why_len: usize,
+        why_size: *mut usize,
     ) -> u32;
     fn puffgrit_explain(
         kind: u32,
@@ -93,6 +113,40 @@ pub fn json(kind: Kind, input: &[u8], out: &mut [u8]) -> Result<Lengths, Error> 
     lengths(status, read, len)
 }
 
+/// Writes the data item at the beginning of the input, which the kind accepts, as JSON that is this
+/// item and nothing else to the beginning of the output, so that [`encode`] encodes it again.
+pub fn values(kind: Kind, input: &[u8], out: &mut [u8]) -> Result<Lengths, Error> {
+    let (mut read, mut len) = (0, 0);
+    let (given, start, room) = (input.as_ptr(), out.as_mut_ptr(), out.len());
+    // SAFETY: as for `rewrite`.
+    let status = unsafe { puffgrit_values(kind as u32, given, input.len(), &mut read, start, room, &mut len) };
+    lengths(status, read, len)
+}
+
+/// Encodes what the JSON is as the kind to the beginning of the output, as [`rewrite`] does of bytes, and
+/// returns how many bytes were written. Where a value of the JSON is refused, a text about which and why
+/// is written to the beginning of `why`, cut off where that ends, and returned with the error; else that
+/// text is empty.
+pub fn encode<'a>(kind: Kind, json: &str, out: &mut [u8], why: &'a mut [u8]) -> Result<usize, (Error, &'a str)> {
+    let (mut len, mut size) = (0, 0);
+    let (given, start, room, told, most) = (json.as_ptr(), out.as_mut_ptr(), out.len(), why.as_mut_ptr(), why.len());
+    // SAFETY: as for `rewrite`.
+    let status = unsafe { puffgrit_encode(kind as u32, given, json.len(), start, room, &mut len, told, most, &mut size) };
+    match status {
+        0 => Ok(len),
+        1 => Err((Error::TooShort(len), "")),
+        _ => Err((Error::from_status(status), text_in(&why[..size.min(most)]))),
+    }
+}
+
+/// The text in these bytes, which are UTF-8, and may be cut off within a character.
+fn text_in(written: &[u8]) -> &str {
+    match core::str::from_utf8(written) {
+        Ok(text) => text,
+        Err(error) => core::str::from_utf8(&written[..error.valid_up_to()]).unwrap_or(""),
+    }
+}
+
 /// Why an input is rejected.
 #[derive(Clone, Copy, Debug, PartialEq, Eq)]
 pub struct Explanation<'a> {
@@ -125,12 +179,7 @@ pub fn explain<'a>(kind: Kind, input: &[u8], out: &'a mut [u8]) -> Result<Verdic
         Error::Rejected { fault, member } => (fault, member),
         error => return Err(error),
     };
-    // The text is UTF-8, and may be cut off within a character.
-    let written = &out[..len.min(room)];
-    let text = match core::str::from_utf8(written) {
-        Ok(text) => text,
-        Err(error) => core::str::from_utf8(&written[..error.valid_up_to()]).unwrap_or(""),
-    };
+    let text = text_in(&out[..len.min(room)]);
     Ok(Verdict::Rejected(Explanation { fault, member, refusal, text }))
 }
 
@@ -151,6 +200,26 @@ mod tests {
         assert_eq!(rewrite(Kind::Cbor, &[0x81, 0x01], &mut out[..1]), Err(Error::TooShort(2)));
         assert_eq!(rewrite(Kind::GetAssertionRequest, &[0xa0], &mut out), Err(Error::Rejected { fault: Fault::Missing, member: Some(1) }));
         assert_eq!(rewrite(Kind::Request, b"{", &mut out), Err(Error::Rejected { fault: Fault::BadJson, member: None }));
+    }
+
+    #[test]
+    fn encodes() {
+        let (mut out, mut why) = ([0; 32], [0; 80]);
+        let text = br#"{"subCommand":2}"#;
+        let request = [0xa1, 0x02, 0x02];
+        assert_eq!(values(Kind::ClientPinRequest, &request, &mut out), Ok(Lengths { read: 3, written: text.len() }));
+        assert_eq!(out[..text.len()], text[..]);
+        assert_eq!(encode(Kind::ClientPinRequest, r##"{ "subCommand": 2, "#1": 1 }"##, &mut out, &mut why), Ok(5));
+        assert_eq!(out[..5], [0xa2, 0x01, 0x01, 0x02, 0x02]);
+        assert_eq!(encode(Kind::ClientPinRequest, r#"{"subCommand":2}"#, &mut [0; 2], &mut why), Err((Error::TooShort(3), "")));
+        for (json, fault, member, told) in [
+            (r#"{"subCommand":9,"permissions":"3"}"#, Fault::Refused, Some(9), "permissions: an unsigned integer below 4294967296 is wanted"),
+            (r#"{"subCommand":{"$bytes":1}}"#, Fault::NoItem, None, "subCommand.$bytes: a string is wanted"),
+            ("{", Fault::BadJson, None, ""),
+        ] {
+            assert_eq!(encode(Kind::ClientPinRequest, json, &mut out, &mut why), Err((Error::Rejected { fault, member }, told)));
+        }
+        assert_eq!(encode(Kind::Auth, "{}", &mut out, &mut why), Err((Error::UnknownKind, "")));
     }
 
     #[test]

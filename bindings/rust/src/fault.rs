@@ -27,8 +27,10 @@ pub enum Fault {
     UnexpectedItem,
     /// The member contains a number of JSON that is no integer of 64 bits.
     Float,
-    /// The text is no JSON of at most 127 levels.
+    /// The text is no JSON of at most 127 levels, or of `encode` 128.
     BadJson,
+    /// A value of the JSON is no data item.
+    NoItem,
     /// A fault that this crate doesn't know, by its status in puffgrit.h.
     Other(u8),
 }
@@ -48,6 +50,7 @@ impl Fault {
             24 => Fault::UnexpectedItem,
             25 => Fault::Float,
             26 => Fault::BadJson,
+            27 => Fault::NoItem,
             other => Fault::Other(other),
         }
     }
@@ -119,6 +122,7 @@ mod tests {
             (3, "the call doesn't have this kind"),
             (16, "the input is rejected: DecodeFailed"),
             (26, "the input is rejected: BadJson"),
+            (27, "the input is rejected: NoItem"),
             (20 + 256 * 3, "the input is rejected: Refused(3)"),
             (99, "the input is rejected: Other(99)"),
         ] {

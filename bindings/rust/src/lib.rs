@@ -11,8 +11,8 @@
 //! ```
 //!
 //! The calls that look are compiled from the C that this crate carries. With the feature `whole` all of
-//! libpuffgrit is linked, from the folder that `PUFFGRIT_PREFIX` names: then there are `rewrite`, `json`
-//! and `explain`, which allocate, and free what they allocated.
+//! libpuffgrit is linked, from the folder that `PUFFGRIT_PREFIX` names: then there are `rewrite`, `json`,
+//! `explain`, `values` and `encode`, which allocate, and free what they allocated.
 #![no_std]
 
 mod auth_data;

@@ -26,7 +26,7 @@ fn values_as(alloc: Global, kind: Kind, input: &[u8]) -> Result<(Vec<u8>, usize)
 /// `out`, and the JSON's length to `len`; and to `read` how many bytes of the input the item takes.
 /// Members have their names, and those that the message's table hasn't stay. Integers, texts, arrays and
 /// objects are themselves, and byte strings base64url without padding where the table wants bytes; what
-/// JSON can't say otherwise is an object of one member, as {"$bytes": "AQ"} or {"$float": "1.5"}.
+/// JSON can't say otherwise is an object of one member, as {"$bytes": "AQ"} or {"$cbor": "f93e00"}.
 /// `passkey_inspect --values` prints the same. puffgrit_json is for people, and drops what this keeps.
 ///
 /// Returns what puffgrit_rewrite returns, with the same faults, and leaves `out`, `len` and `read` as it
