@@ -64,7 +64,7 @@ pub data Encoded (IsWanted : List ℕ → Type 0) (IsFault : ℕ → Option (Lis
 abbrev pub IsPut : List ℕ → List ℕ → List ℕ → ℕ → ℕ → Type 0
 IsPut bytes old new len status = (len ≡ length bytes)
     × (((status ≡ 0) × (length bytes ≤ length old) × (new ≡ bytes ++ drop (length bytes) old))
-      ⊎ ((status ≡ 1) × (length old < length bytes) × (new ≡ old)))
+    ⊎ ((status ≡ 1) × (length old < length bytes) × (new ≡ old)))
 
 -- what is written of a result
 abbrev pub TellsEncoding : {A : Type 0} → (A → List ℕ) → Result A Unencoded → Encoding → Encoding → ℕ → Type 0

@@ -51,10 +51,7 @@ fn unread(fault: ValuesFault) -> Unencoded
 }
 
 /// Returns a text about what in the message its table refuses.
-fn blame_of_message<M: Message>(
-    alloc: Global,
-    bytes: &[u8],
-) -> Result<Option<String>, OutOfMemory>
+fn blame_of_message<M: Message>(alloc: Global, bytes: &[u8]) -> Result<Option<String>, OutOfMemory>
     ensures { IfOk result (λ text. (e : Option Explanation)
         × (Explains M.fields bytes.now e × (option_map string_bytes text ≡ blame_told e))) }
 {
