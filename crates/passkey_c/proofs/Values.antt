@@ -1,8 +1,34 @@
 -- What is written of an encoding, by what is known of it.
 use Rattle.std.specs.Prelude.{◌≡◌, ℕ, List, Option, option_map, Result, Ok, Err, IfOk, IfErr, string_bytes}
-use Rattle.std.proofs.Common.{subst, sym}
-use Rattle.passkey_c.specs.Values.{Encoded, fits, long, refused, Encoding, TellsEncoding}
+use Rattle.std.proofs.Common.{subst, sym, inl, inr}
+use Rattle.passkey_c.specs.Values.{Blames, Encoded, fits, long, refused, Encoding, IsPut, TellsEncoding}
+use Rattle.passkey_c.specs.Values.{IsRejection, IsUnencoded, exhausted, rejected}
 use Rattle.passkey_c.specs.declared.encode.Unencoded.{Unencoded}
+use Rattle.passkey_catalogue.specs.Rewriting.{IsRefusal}
+use Rattle.passkey_catalogue.specs.Values.{ReadsValues}
+use Rattle.passkey_catalogue.specs.declared.form.Form.{Form}
+use Rattle.passkey_cbor.specs.Item.{Item}
+use Rattle.passkey_cbor.specs.Written.{written}
+use Rattle.passkey_rewrite.specs.Definition.{Definition}
+use Rattle.passkey_rewrite.specs.declared.fault.RunFault.{RunFault}
+
+-- The encoding of the item that the text is, is refused.
+pub unencoded_by : {d : Definition Form} {text bytes : List ℕ} {status : ℕ} {told : Option (List ℕ)} {fault : RunFault} (front : Item)
+    → ReadsValues d text front → bytes ≡ written front → IsRefusal d bytes fault → IsRejection d bytes fault status told
+    → IsUnencoded d text status told
+unencoded_by {d} {text} {bytes} {status} {told} {fault} front reads is refused rejection = elim rejection [
+  | inl h ↦ exhausted h.0 h.1
+  | inr h ↦ rejected front reads fault (subst (λ (b : List ℕ). IsRefusal d b fault) is refused) h.0 h.1
+      (subst (λ (b : List ℕ). Blames d b told) is h.2)
+]
+
+-- What is put into the output is what is written of a result.
+pub encoded_by : {old : Encoding} {out : List ℕ} {len status : ℕ} (bytes : List ℕ) → IsPut bytes old.out out len status
+    → Encoded (λ b. b ≡ bytes) (λ s t. ⊥) old (record old { out = out; len = len }) status
+encoded_by bytes put = elim put.1 [
+  | inl h ↦ fits h.0 bytes refl h.1 (rw (put.0, h.2) refl)
+  | inr h ↦ long h.0 bytes refl h.1 (rw (put.0, h.2) refl)
+]
 
 module _ {old new : Encoding} {status : ℕ} where
   -- more is known of the bytes and of the fault

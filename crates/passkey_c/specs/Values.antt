@@ -1,5 +1,6 @@
 -- What calls that write inputs as values of JSON, and encode such values, return, and leave in the caller's memory.
-use Rattle.std.specs.Prelude.{◌≡◌, ◌==◌, ◌<◌, ◌≤◌, ◌⊎◌, ◌++◌, ℕ, Bool, false, List, length, take, drop, Option, None, Some, option_map, Result, Ok, Err, string_bytes}
+use Rattle.std.specs.Prelude.{◌≡◌, ◌==◌, ◌<◌, ◌≤◌, ◌⊎◌, ◌++◌, ℕ, Bool, false, List, length, take, drop}
+use Rattle.std.specs.Prelude.{Option, None, Some, option_map, Result, Ok, Err, string_bytes}
 use Rattle.passkey_cbor.specs.Item.{Item}
 use Rattle.passkey_cbor.specs.Written.{written}
 use Rattle.passkey_catalogue.specs.Catalogue.{definition}

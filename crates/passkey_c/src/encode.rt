@@ -1,7 +1,8 @@
 //! Values of JSON, encoded, for C.
 ghost use Rattle.std.specs.Prelude.{◌≡◌, IfOk, IfErr, None, Option, option_map, string_bytes};
 ghost use Rattle.passkey_c.specs.Statuses.{values_status};
-ghost use Rattle.passkey_c.specs.Values.{Blames, EncodesAs, IsPut, IsRejection, IsUnencoded, TellsEncoding, blame_told, said_of};
+ghost use Rattle.passkey_c.specs.Values.{Blames, EncodesAs, IsPut, IsRejection, IsUnencoded, TellsEncoding};
+ghost use Rattle.passkey_c.specs.Values.{blame_told, said_of};
 ghost use Rattle.passkey_catalogue.specs.Catalogue.{definition, kind_numbered};
 ghost use Rattle.passkey_catalogue.specs.Values.{EncodesValues};
 ghost use Rattle.passkey_explain.specs.Explains.{Explains};
