@@ -1,3 +1,3 @@
 pub mod Writing
 pub mod Explaining
-pub mod Values
+pub mod Encoding

@@ -1,5 +1,5 @@
 -- What calls that write inputs as values of JSON, and encode such values, return, and leave in the caller's memory.
-use Rattle.std.specs.Prelude.{◌≡◌, ◌==◌, ◌<◌, ◌≤◌, ◌⊎◌, ◌++◌, ℕ, Bool, false, List, length, take, drop}
+use Rattle.std.specs.Prelude.{◌≡◌, ◌==◌, ◌<◌, ◌≤◌, ◌⊎◌, ◌++◌, ℕ, false, List, length, take, drop}
 use Rattle.std.specs.Prelude.{Option, None, Some, option_map, Result, Ok, Err, string_bytes}
 use Rattle.passkey_cbor.specs.Item.{Item}
 use Rattle.passkey_cbor.specs.Written.{written}
@@ -14,7 +14,7 @@ use Rattle.passkey_explain.specs.Blame.{blame_of}
 use Rattle.passkey_explain.specs.Explains.{Explains}
 use Rattle.passkey_explain.specs.Texts.{blame_text}
 use Rattle.passkey_explain.specs.declared.explanation.Explanation.{Explanation}
-use Rattle.passkey_explain.specs.declared.explanation.Explanation.TheVariants.{NotWellFormed, Refused}
+use Rattle.passkey_explain.specs.declared.explanation.Explanation.TheVariants.{Refused}
 use Rattle.passkey_rewrite.specs.Definition.{Definition, authenticator, item, message, other}
 use Rattle.passkey_rewrite.specs.declared.fault.RunFault.{RunFault}
 use Rattle.passkey_rewrite.specs.declared.fault.RunFault.TheVariants.{UnknownKind}

@@ -42,13 +42,12 @@ fn unread(fault: ValuesFault) -> Unencoded
     ensures { (result.status ≡ values_status fault) × (option_map string_bytes result.text ≡ said_of fault) }
 {
     let status = values_status(&fault);
-    match fault {
-        ValuesFault::NoItem(_, text) => Unencoded {
-            status,
-            text: Some(text),
-        },
-        _ => Unencoded { status, text: None },
-    }
+    let text = match fault {
+        ValuesFault::NoItem(_found, text) => Some(text),
+        ValuesFault::NoValues => None,
+        ValuesFault::Run(_fault) => None,
+    };
+    Unencoded { status, text }
 }
 
 /// Returns a text about what in the message its table refuses.
@@ -161,11 +160,15 @@ fn tell_encoding(
         Ok(bytes) => return put_encoding(bytes.as_slice(), out, len),
         Err(refused) => refused,
     };
-    if let Some(text) = &refused.text {
-        put_front(why, text.as_bytes());
-        *why_size = text.len();
-    }
-    refused.status
+    let Unencoded { status, text } = refused;
+    let text = match text {
+        Some(text) => text,
+        None => return status,
+    };
+    let bytes = text.as_bytes();
+    put_front(why, bytes);
+    *why_size = bytes.len();
+    status
 }
 
 /// Encodes what the JSON is as this kind: writes the encoding of the data item, as puffgrit_rewrite does of

@@ -1,5 +1,5 @@
 use Rattle.std.proofs.Common.{Option, subst}
-use Rattle.passkey_c.proofs.Values.{encoded_of}
+use Rattle.passkey_c.proofs.Encoding.{encoded_of}
 use Rattle.passkey_c.proofs.encode.puffgrit_encode.Goals as goal
 use Rattle.passkey_c.specs.Values.{EncodesAs, Encoding, IsUnencoded}
 use Rattle.passkey_catalogue.specs.Catalogue.{definition}

@@ -1,6 +1,6 @@
 -- What is written of an encoding, by what is known of it.
-use Rattle.std.specs.Prelude.{◌≡◌, ℕ, List, Option, option_map, Result, Ok, Err, IfOk, IfErr, string_bytes}
-use Rattle.std.proofs.Common.{subst, sym, inl, inr}
+use Rattle.std.specs.Prelude.{◌≡◌, ◌++◌, ℕ, List, length, take, drop, Option, None, Some, option_map, Result, Ok, Err, IfOk, IfErr, string_bytes}
+use Rattle.std.proofs.Common.{subst, sym, inl, inr, refl}
 use Rattle.passkey_c.specs.Values.{Blames, Encoded, fits, long, refused, Encoding, IsPut, TellsEncoding}
 use Rattle.passkey_c.specs.Values.{IsRejection, IsUnencoded, exhausted, rejected}
 use Rattle.passkey_c.specs.declared.encode.Unencoded.{Unencoded}
@@ -13,22 +13,36 @@ use Rattle.passkey_rewrite.specs.Definition.{Definition}
 use Rattle.passkey_rewrite.specs.declared.fault.RunFault.{RunFault}
 
 -- The encoding of the item that the text is, is refused.
-pub unencoded_by : {d : Definition Form} {text bytes : List ℕ} {status : ℕ} {told : Option (List ℕ)} {fault : RunFault} (front : Item)
-    → ReadsValues d text front → bytes ≡ written front → IsRefusal d bytes fault → IsRejection d bytes fault status told
-    → IsUnencoded d text status told
-unencoded_by {d} {text} {bytes} {status} {told} {fault} front reads is refused rejection = elim rejection [
+pub unencoded_by : {d : Definition Form} {text bytes : List ℕ} {status : ℕ} {told : Option (List ℕ)} (fault : RunFault)
+    (front : Item) → ReadsValues d text front → bytes ≡ written front → IsRefusal d bytes fault
+    → IsRejection d bytes fault status told → IsUnencoded d text status told
+unencoded_by {d} {text} {bytes} {status} {told} fault front reads is refusal rejection = elim rejection [
   | inl h ↦ exhausted h.0 h.1
-  | inr h ↦ rejected front reads fault (subst (λ (b : List ℕ). IsRefusal d b fault) is refused) h.0 h.1
+  | inr h ↦ rejected front reads fault (subst (λ (b : List ℕ). IsRefusal d b fault) is refusal) h.0 h.1
       (subst (λ (b : List ℕ). Blames d b told) is h.2)
 ]
 
--- What is put into the output is what is written of a result.
-pub encoded_by : {old : Encoding} {out : List ℕ} {len status : ℕ} (bytes : List ℕ) → IsPut bytes old.out out len status
-    → Encoded (λ b. b ≡ bytes) (λ s t. ⊥) old (record old { out = out; len = len }) status
-encoded_by bytes put = elim put.1 [
-  | inl h ↦ fits h.0 bytes refl h.1 (rw (put.0, h.2) refl)
-  | inr h ↦ long h.0 bytes refl h.1 (rw (put.0, h.2) refl)
-]
+module _ {old : Encoding} where
+  -- What is put into the output is what is written of a result.
+  pub encoded_by : {out : List ℕ} {len status : ℕ} (bytes : List ℕ) → IsPut bytes old.out out len status
+      → Encoded (λ b. b ≡ bytes) (λ s t. ⊥) old (record old { out = out; len = len }) status
+  encoded_by bytes put = elim put.1 [
+    | inl h ↦ fits h.0 bytes refl h.1 (rw (h.2, put.0) refl)
+    | inr h ↦ long h.0 bytes refl h.1 (rw (h.2, put.0) refl)
+  ]
+
+  -- Nothing is written where there is no text.
+  pub untold : (u : Unencoded) → option_map string_bytes u.text ≡ None
+      → Encoded (λ b. ⊥) (λ s t. (s ≡ u.status) × (t ≡ option_map string_bytes u.text)) old old u.status
+  untold u none = refused None (refl, sym none) refl
+
+  -- The text is written, as much of it as there is room for, and its length.
+  pub told_as : (u : Unencoded) {why : List ℕ} {size : ℕ} (text bytes : List ℕ) → option_map string_bytes u.text ≡ Some text
+      → bytes ≡ text → why ≡ take (length old.why) bytes ++ drop (length bytes) old.why → size ≡ length bytes
+      → Encoded (λ b. ⊥) (λ s t. (s ≡ u.status) × (t ≡ option_map string_bytes u.text)) old
+      (record old { why = why; why_size = size }) u.status
+  told_as u text bytes some is put size-is =
+      refused (Some text) (refl, sym some) (rw (put, size-is, is) refl)
 
 module _ {old new : Encoding} {status : ℕ} where
   -- more is known of the bytes and of the fault
