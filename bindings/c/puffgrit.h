@@ -4,14 +4,14 @@
    - THE POINTER OF A BUFFER MUST NOT BE NULL, even for no bytes. A buffer has at most SSIZE_MAX bytes, no other thread writes it
      during a call, and no output overlaps it or another output.
    - No call has a state, calls back, aborts, or loops without end, and nothing is to be freed. Calls may be made from any thread.
-   - puffgrit_rewrite, puffgrit_json and puffgrit_explain allocate, by rattle_alloc, rattle_realloc and rattle_dealloc, which stand for
-     malloc, realloc and free in the library. A program that is linked with libpuffgrit.a may have its own, but all three (as Puffgrit's
-     bindings/c/heap.c): else the linker finds one twice. libpuffgrit.so always calls the library's. The other calls call no function of
-     C, and may be made from a signal handler.
+   - puffgrit_rewrite, puffgrit_json, puffgrit_explain, puffgrit_values and puffgrit_encode allocate, by rattle_alloc, rattle_realloc and
+     rattle_dealloc, which stand for malloc, realloc and free in the library. A program that is linked with libpuffgrit.a may have its
+     own, but all three (as Puffgrit's bindings/c/heap.c): else the linker finds one twice. libpuffgrit.so always calls the library's.
+     The other calls call no function of C, and may be made from a signal handler.
    - A call that finds nothing returns false, and leaves its output as it was.
    - A call that looks at a data item looks at all of it: it takes as long as puffgrit_item_len. No proof covers the stack: over arrays,
-     maps and tags of 256 levels puffgrit_rewrite of libpuffgrit took up to 160 KiB, puffgrit_json and puffgrit_explain 352,
-     puffgrit_is_canonical 56, and the others 10; README.md has the figures of puffgrit.c.
+     maps and tags of 256 levels puffgrit_rewrite of libpuffgrit took up to 160 KiB, puffgrit_is_canonical 56, the other calls
+     that allocate 352, and the others 10; README.md has the figures of puffgrit.c.
    - A data item is in CTAP2's canonical form (CTAP 2.1, section 8) if its heads are as short as they can be, its lengths definite, the
      keys of each map in ascending order, and neither a tag nor undefined is in it; a float may have any width. puffgrit_rewrite writes
      the shortest heads, definite lengths, null for undefined, and a message's own members in order. What it keeps as a data item keeps
@@ -106,6 +106,7 @@ typedef unsigned char puffgrit_bool; /* 0 or 1 */
 #define PUFFGRIT_KIND_CTAP_GA_REQUEST 45u
 #define PUFFGRIT_KIND_CTAP_MC_RESPONSE 46u
 #define PUFFGRIT_KIND_CTAP_GA_RESPONSE 47u
+#define PUFFGRIT_KIND_ATTESTATION_OBJECT 48u
 
 /* The statuses of calls that decode. A fault's status is in the first byte, and the number of its member in the second. */
 #define PUFFGRIT_OK 0u
@@ -124,6 +125,7 @@ typedef unsigned char puffgrit_bool; /* 0 or 1 */
 #define PUFFGRIT_FAULT_UNEXPECTED_ITEM 24u
 #define PUFFGRIT_FAULT_FLOAT 25u
 #define PUFFGRIT_FAULT_BAD_JSON 26u
+#define PUFFGRIT_FAULT_NO_ITEM 27u
 #define PUFFGRIT_STATUS_OF(returned) ((returned) & 255u)
 #define PUFFGRIT_MEMBER_OF(returned) ((returned) >> 8)
 
@@ -186,6 +188,16 @@ typedef struct {
     uint32_t flags;
 } puffgrit_auth_data;
 
+/* Writes the data item at the beginning of the input, which this kind accepts, as JSON that is this item and nothing
+   else, so that puffgrit_encode encodes it again, changed or not: to the beginning of out, and the JSON's length to len;
+   and to read how many bytes of the input the item takes. Members have their names, and those that the message's table
+   hasn't stay. Integers, texts, arrays and objects are themselves, and byte strings base64url without padding where the
+   table wants bytes; what JSON can't say otherwise is an object of one member, as {"$bytes": "AQ"} or {"$cbor":
+   "f93e00"}. passkey_inspect --values prints the same. puffgrit_json is for people, and drops what this keeps. Returns
+   what puffgrit_rewrite returns, with the same faults, and leaves out, len and read as it does; PUFFGRIT_UNKNOWN_KIND
+   also for a kind whose inputs have no such JSON. (RFC 8949; RFC 8259; CTAP 2.1, section 6.) */
+uint32_t puffgrit_values(uint32_t kind, const uint8_t *input, size_t input_len, size_t *read, uint8_t *out, size_t out_len, size_t *len);
+
 /* Decodes the input as this kind, encodes the result again, in CTAP2's canonical form or as compact JSON, and writes it
    to the beginning of out and its length to len; and to read how many bytes of the input were decoded: those of the data
    item or the message at its beginning, as puffgrit_item_len counts them; those of authenticator data up to the end of
@@ -224,6 +236,20 @@ uint32_t puffgrit_json(uint32_t kind, const uint8_t *input, size_t input_len, si
    wanted". It is ASCII, but for the names of members in a JSON text that no record knows, which are UTF-8. Otherwise
    nothing is written. (CTAP 2.1, section 6; RFC 8949, section 3; WebAuthn Level 3, sections 5, 6.1 and 8.) */
 uint32_t puffgrit_explain(uint32_t kind, const uint8_t *input, size_t input_len, size_t *read, puffgrit_refusal *refusal, uint8_t *out, size_t out_len, size_t *len);
+
+/* Encodes what the JSON is as this kind: writes the encoding of the data item, as puffgrit_rewrite does of one in any
+   encoding, to the beginning of out and its length to len. The JSON is what puffgrit_values writes, changed, or written
+   by hand: members may have their names or numbers, white space and numbers may be written in any way, and what the
+   table hasn't isn't encoded. Returns PUFFGRIT_OK then; PUFFGRIT_TOO_SHORT, with the length that is needed in len, if
+   the output has fewer bytes; PUFFGRIT_OUT_OF_MEMORY if an allocation fails; PUFFGRIT_UNKNOWN_KIND, also for a kind
+   whose inputs have no such JSON; PUFFGRIT_FAULT_BAD_JSON if the text isn't JSON in UTF-8 of at most 128 levels;
+   PUFFGRIT_FAULT_NO_ITEM if a value in it is no data item; or the fault with which the kind refuses the data item, as
+   puffgrit_rewrite. out stays as it was but for PUFFGRIT_OK, and so does len but for PUFFGRIT_OK and PUFFGRIT_TOO_SHORT.
+   For PUFFGRIT_FAULT_NO_ITEM, and where a message's table refuses the data item, a text is written to the beginning of
+   why, or as much of it as there is room for, and its whole length to why_size: by its names which value is refused, and
+   what is wanted there, as "permissions: an unsigned integer below 4294967296 is wanted". It is UTF-8, with names as
+   they are in the JSON. Otherwise these stay as they were. (RFC 8259; RFC 8949; CTAP 2.1, sections 6 and 8.) */
+uint32_t puffgrit_encode(uint32_t kind, const uint8_t *json, size_t json_len, uint8_t *out, size_t out_len, size_t *len, uint8_t *why, size_t why_len, size_t *why_size);
 
 /* Appends the head of a map of so many members, each of which is to be appended next, its key before its value, in
    CTAP2's order (major type 5). len is the length of what stands in out so far, 0 at first, and grows by what is

@@ -8,7 +8,7 @@ export const KINDS = [
   "lb-request", "lb-response", "lb-entry", "cfg-request", "cfg-min-pin-length", "cfg-vendor", "cose-key", "info-23", "mc-inputs",
   "mc-outputs", "mc-unsigned", "ga-inputs", "ga-outputs", "ga-unsigned", "att-packed", "att-tpm", "att-android-key",
   "att-android-safetynet", "att-fido-u2f", "att-none", "att-apple", "att-compound", "tpm-cert-info", "tpm-pub-area", "ctap-mc-request",
-  "ctap-ga-request", "ctap-mc-response", "ctap-ga-response",
+  "ctap-ga-request", "ctap-mc-response", "ctap-ga-response", "attestation-object",
 ];
 
 /** The kinds of `decode`: all but attestation statements and structures of a TPM. */
@@ -17,7 +17,7 @@ export const DECODED = [
   "authenticated", "client-data", "pin-request", "pin-response", "bio-request", "bio-response", "cm-request", "cm-response",
   "lb-request", "lb-response", "lb-entry", "cfg-request", "cfg-min-pin-length", "cfg-vendor", "cose-key", "info-23", "mc-inputs",
   "mc-outputs", "mc-unsigned", "ga-inputs", "ga-outputs", "ga-unsigned", "ctap-mc-request", "ctap-ga-request", "ctap-mc-response",
-  "ctap-ga-response",
+  "ctap-ga-response", "attestation-object",
 ];
 
 /** The kinds of `explain`: all. */

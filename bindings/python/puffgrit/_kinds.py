@@ -7,7 +7,7 @@ KINDS = (
     "pin-request pin-response bio-request bio-response cm-request cm-response lb-request lb-response lb-entry cfg-request "
     "cfg-min-pin-length cfg-vendor cose-key info-23 mc-inputs mc-outputs mc-unsigned ga-inputs ga-outputs ga-unsigned att-packed "
     "att-tpm att-android-key att-android-safetynet att-fido-u2f att-none att-apple att-compound tpm-cert-info tpm-pub-area "
-    "ctap-mc-request ctap-ga-request ctap-mc-response ctap-ga-response"
+    "ctap-mc-request ctap-ga-request ctap-mc-response ctap-ga-response attestation-object"
 ).split()
 
 #: The kinds of `decode`: all but attestation statements and structures of a TPM.
@@ -15,7 +15,7 @@ DECODED = (
     "cbor auth mc-request mc-response ga-request ga-response info hmac-input creation request created authenticated client-data "
     "pin-request pin-response bio-request bio-response cm-request cm-response lb-request lb-response lb-entry cfg-request "
     "cfg-min-pin-length cfg-vendor cose-key info-23 mc-inputs mc-outputs mc-unsigned ga-inputs ga-outputs ga-unsigned ctap-mc-request "
-    "ctap-ga-request ctap-mc-response ctap-ga-response"
+    "ctap-ga-request ctap-mc-response ctap-ga-response attestation-object"
 ).split()
 
 #: The kinds of `encode`, and of `decode` if it is exact: data items and messages.
@@ -23,7 +23,7 @@ EXACT = (
     "cbor mc-request mc-response ga-request ga-response info hmac-input pin-request pin-response bio-request bio-response cm-request "
     "cm-response lb-request lb-response lb-entry cfg-request cfg-min-pin-length cfg-vendor cose-key info-23 mc-inputs mc-outputs "
     "mc-unsigned ga-inputs ga-outputs ga-unsigned att-packed att-tpm att-android-key att-android-safetynet att-fido-u2f att-none "
-    "att-apple att-compound ctap-mc-request ctap-ga-request"
+    "att-apple att-compound ctap-mc-request ctap-ga-request ctap-mc-response ctap-ga-response attestation-object"
 ).split()
 
 #: The kinds of `explain`: all.

@@ -107,6 +107,30 @@ class CtapGaRequest(TypedDict, total=False):
     pinUvAuthProtocol: int
 
 
+class CtapMcResponse(TypedDict, total=False):
+    """An authenticatorMakeCredential response by the standard alone (CTAP 2.2, section 6.1)."""
+
+    fmt: str
+    authData: bytes
+    attStmt: Any
+    epAtt: bool
+    largeBlobKey: bytes
+    unsignedExtensionOutputs: Any
+
+
+class CtapGaResponse(TypedDict, total=False):
+    """An authenticatorGetAssertion response by the standard alone (CTAP 2.2, section 6.2)."""
+
+    credential: CredentialDescriptor
+    authData: bytes
+    signature: bytes
+    user: UserEntity
+    numberOfCredentials: int
+    userSelected: bool
+    largeBlobKey: bytes
+    unsignedExtensionOutputs: Any
+
+
 class MakeCredentialRequest(TypedDict, total=False):
     """An authenticatorMakeCredential request."""
 

@@ -99,4 +99,6 @@ pub enum Kind {
     CtapMcResponse = 46,
     /// An authenticatorGetAssertion response by the standard alone (CTAP 2.2, section 6.2).
     CtapGaResponse = 47,
+    /// An attestation object (WebAuthn Level 3, section 6.5.4).
+    AttestationObject = 48,
 }

@@ -43,7 +43,7 @@ These have to be named:
   bytes   info-23, mc-inputs, mc-outputs, mc-unsigned, ga-inputs, ga-outputs, ga-unsigned,
           att-packed, att-tpm, att-android-key, att-android-safetynet, att-fido-u2f, att-none,
           att-apple, att-compound, tpm-cert-info, tpm-pub-area, ctap-mc-request,
-          ctap-ga-request, ctap-mc-response, ctap-ga-response
+          ctap-ga-request, ctap-mc-response, ctap-ga-response, attestation-object
   JSON    signal-unknown, signal-accepted, signal-details, client-inputs, client-outputs,
           mediated-creation, mediated-request, client-data-top, client-data-payment,
           capabilities
