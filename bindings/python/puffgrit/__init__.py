@@ -352,7 +352,8 @@ def encode(kind: str, value: Any) -> bytes:
 
     A value is `None`, a `bool`, `int`, `float` (of 64 bits), `str`, `bytes`, `uuid.UUID`, list, tuple or dictionary of values, or an
     `Item`, which is taken as it is encoded. A key is a member's name or another text as `str`, an `int`, `bytes` or an `Item`, and
-    the keys of a map may be in any order. Where a message has keys that are byte strings, a `str` is base64url.
+    the keys of a map may be in any order. Where a message has keys that are byte strings, a `str` is base64url. Where bytes are wanted,
+    a `str` is refused by the kinds of the standard alone (`ctap-mc-request` and its like), and decoded as `rewrite` does by the others.
 
     Raises `Fault` if the kind rejects the value, with the member and an explanation, as "user.id: a byte string is wanted"; with `NoItem`
     if it is no data item: an integer needs more than 64 bits, or a key is there twice; and with `BadJson` if a value is inside more
