@@ -247,8 +247,9 @@ uint32_t puffgrit_explain(uint32_t kind, const uint8_t *input, size_t input_len,
    puffgrit_rewrite. out stays as it was but for PUFFGRIT_OK, and so does len but for PUFFGRIT_OK and PUFFGRIT_TOO_SHORT.
    For PUFFGRIT_FAULT_NO_ITEM, and where a message's table refuses the data item, a text is written to the beginning of
    why, or as much of it as there is room for, and its whole length to why_size: by its names which value is refused, and
-   what is wanted there, as "permissions: an unsigned integer below 4294967296 is wanted". It is UTF-8, with names as
-   they are in the JSON. Otherwise these stay as they were. (RFC 8259; RFC 8949; CTAP 2.1, sections 6 and 8.) */
+   what is wanted there, as "permissions: an unsigned integer below 4294967296 is wanted", or "member 2 is missing". It
+   is UTF-8, with names as they are in the JSON. Otherwise these stay as they were. (RFC 8259; RFC 8949; CTAP 2.1,
+   sections 6 and 8.) */
 uint32_t puffgrit_encode(uint32_t kind, const uint8_t *json, size_t json_len, uint8_t *out, size_t out_len, size_t *len, uint8_t *why, size_t why_len, size_t *why_size);
 
 /* Appends the head of a map of so many members, each of which is to be appended next, its key before its value, in

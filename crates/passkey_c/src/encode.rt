@@ -27,7 +27,7 @@ pub(crate) struct Unencoded {
     pub text: Option<String>,
 }
 
-/// Memory ran out.
+/// Returns that memory ran out.
 fn exhausted() -> Unencoded
     ensures { (result.status ≡ 2) × (result.text ≡ None) }
 {
@@ -37,7 +37,7 @@ fn exhausted() -> Unencoded
     }
 }
 
-/// The text is no JSON of a data item.
+/// Returns why a text is no JSON of a data item.
 fn unread(fault: ValuesFault) -> Unencoded
     ensures { (result.status ≡ values_status fault) × (option_map string_bytes result.text ≡ said_of fault) }
 {
@@ -95,7 +95,7 @@ impl<'a> Visitor for Blaming<'a> {
     }
 }
 
-/// The kind refuses the data item with this encoding.
+/// Returns why the kind refuses the data item with this encoding.
 fn rejected(alloc: Global, kind: Kind, bytes: &[u8], fault: RunFault) -> Unencoded
     ensures { IsRejection (definition kind) bytes.now fault result.status (option_map string_bytes result.text) }
 {
@@ -186,8 +186,8 @@ fn tell_encoding(
 /// For PUFFGRIT_FAULT_NO_ITEM, and where a message's table refuses the data item, a text is written to the
 /// beginning of `why`, or as much of it as there is room for, and its whole length to `why_size`: by its
 /// names which value is refused, and what is wanted there, as "permissions: an unsigned integer below
-/// 4294967296 is wanted". It is UTF-8, with names as they are in the JSON. Otherwise these stay as they
-/// were. (RFC 8259; RFC 8949; CTAP 2.1, sections 6 and 8.)
+/// 4294967296 is wanted", or "member 2 is missing". It is UTF-8, with names as they are in the JSON.
+/// Otherwise these stay as they were. (RFC 8259; RFC 8949; CTAP 2.1, sections 6 and 8.)
 #[unsafe(no_mangle)]
 pub extern "C" fn puffgrit_encode(
     alloc: Global,

@@ -1,5 +1,5 @@
 //! Inputs as values of JSON, for C.
-ghost use Rattle.std.specs.Prelude.{◌≡◌, IfOk, IfErr};
+ghost use Rattle.std.specs.Prelude.{IfOk, IfErr};
 ghost use Rattle.passkey_c.specs.Values.{HasNoValues, WritesValues};
 ghost use Rattle.passkey_catalogue.specs.Catalogue.{definition, kind_numbered};
 ghost use Rattle.passkey_catalogue.specs.Values.{ShowsValues};
