@@ -1,6 +1,6 @@
 //! What a browser returns (WebAuthn Level 3, section 5.1): which field each member is. The rows of the
 //! program contain whole credentials and their faults.
-use crate::json::assert_reads;
+use crate::json::checks::assert_reads;
 use passkey_webauthn_json::credentials::{
     AuthenticatorAssertionResponse, CreatedPublicKeyCredential,
 };

@@ -1,5 +1,5 @@
 //! authenticatorMakeCredential (CTAP 2.1, section 6.1).
-use crate::tables::{assert_read, bytes_of, hexadecimal, shown};
+use crate::ctap2::tables::{assert_read, bytes_of, hexadecimal, shown};
 use passkey_bytes::Text;
 use passkey_cbor::Value;
 use passkey_core::AuthenticatorData;

@@ -1,5 +1,5 @@
 //! authenticatorGetAssertion (CTAP 2.1, section 6.2).
-use crate::tables::{assert_read, bytes_of, shown};
+use crate::ctap2::tables::{assert_read, bytes_of, shown};
 use passkey_ctap2::get_assertion::{Options, Request, Response};
 use std::process::Abort;
 

@@ -1,6 +1,6 @@
 //! How inputs and outputs of the extensions hmac-secret and prf are printed (CTAP 2.1, section 12.5;
 //! WebAuthn Level 3, section 10.1.4). The rows of the program contain what they are encoded as.
-use crate::tables::assert_read;
+use crate::ctap2::tables::assert_read;
 use passkey_extensions::{
     AuthenticatorPrfInputs, AuthenticatorPrfMakeOutputs, AuthenticatorPrfValues,
     HmacGetSecretInput, get_assertion, make_credential,

@@ -1,5 +1,5 @@
 //! Signed extension outputs, which authenticator data contain.
-use crate::tables::{assert_read, assert_refused, assert_rewritten};
+use crate::ctap2::tables::{assert_read, assert_refused, assert_rewritten};
 use passkey_core::{get_assertion, make_credential};
 
 // CTAP 2.1, section 12.5, and CTAP 2.2 for hmac-secret-mc.

@@ -1,5 +1,5 @@
 //! Printed texts, most of which aren't in a contract.
-use crate::checks::{assert_same, assert_shown, bytes, text};
+use crate::base::checks::{assert_same, assert_shown, bytes, text};
 use passkey_bytes::{Bytes, BytesFault, List, Map, NotBase64Encoded, Text};
 use passkey_cbor::{CborError, OutOfMemory};
 use passkey_core::{CodeOutOfRange, GivenBack, TryFromSliceError};

@@ -1,7 +1,7 @@
 //! Flags, salts and commands.
 ghost use Rattle.std.specs.Prelude.{◌≡◌, ◌↔◌, IsTrue, IfOk};
 
-use crate::checks::check;
+use crate::base::checks::check;
 use bitflags::Flags as _;
 use passkey_core::{Aaguid, Ctap2Command, Flags, HmacSecretSaltOrOutput};
 use std::alloc::AllocError;

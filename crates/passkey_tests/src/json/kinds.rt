@@ -1,6 +1,6 @@
 //! How values that JSON values decode to are printed, with numbers of IANA's registry "COSE
 //! Algorithms". The rows of the program contain other values.
-use crate::json::assert_reads;
+use crate::json::checks::assert_reads;
 use passkey_bytes::{Map, Text};
 use passkey_iana::Algorithm;
 use passkey_json::{TolerantList, Tolerated, TruthText};

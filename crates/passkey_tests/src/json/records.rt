@@ -1,6 +1,6 @@
 //! Which field of a record each member of an object is (WebAuthn Level 3). The rows of the program
 //! contain what objects are encoded as, and their faults.
-use crate::json::assert_reads;
+use crate::json::checks::assert_reads;
 use passkey_json::{
     AuthenticationExtensionsClientInputs, AuthenticationExtensionsClientOutputs,
     AuthenticationExtensionsPrfInputs, AuthenticatorSelectionCriteria,

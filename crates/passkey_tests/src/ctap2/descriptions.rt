@@ -1,5 +1,5 @@
 //! Data items, described by the tables of messages.
-use crate::tables::bytes_of;
+use crate::ctap2::tables::bytes_of;
 use passkey_cbor::Value;
 use passkey_ctap2::get_assertion::{Request, Response};
 use passkey_ctap2::get_info::Response as GetInfo;

@@ -2,7 +2,7 @@
 ghost use Rattle.std.specs.Prelude.{◌≡◌, ◌∷◌, ◌++◌, [], IfOk, OnOk};
 ghost use Rattle.std.specs.FinMap as fin;
 
-use crate::checks::{bytes, text};
+use crate::base::checks::{bytes, text};
 use passkey_bytes::{Bytes, List, Map, OutOfMemory, Text};
 use std::alloc::Global;
 use std::collections::{BTreeMap, HashMap};

@@ -1,6 +1,6 @@
 //! Client data that a program makes (WebAuthn Level 3, section 5.8.1). The rows of the program contain
 //! client data that is decoded.
-use crate::json::{assert_shows, displayed, parsed};
+use crate::json::checks::{assert_shows, displayed, parsed};
 use indexmap::IndexMap;
 use passkey_bytes::Text;
 use passkey_json::JsonFault;

@@ -1,5 +1,5 @@
 //! Authenticator data, with bytes composed by hand from WebAuthn Level 3, sections 6.1 and 6.5.1.
-use crate::checks::{assert_same, assert_same_bytes, check};
+use crate::base::checks::{assert_same, assert_same_bytes, check};
 use passkey_cbor::Value;
 use passkey_core::{Aaguid, AttestedCredentialData, AuthenticatorData, Flags};
 use passkey_cose::iana::KeyType;

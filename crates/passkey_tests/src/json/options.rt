@@ -1,6 +1,6 @@
 //! Options of registrations and sign-ins (WebAuthn Level 3, sections 5.4 and 5.5), worked out by
 //! hand. The rows of the program contain whole options.
-use crate::json::{assert_reads, assert_rewrites};
+use crate::json::checks::{assert_reads, assert_rewrites};
 use passkey_json::BytesForm::{Base64Url, Numbers};
 use passkey_webauthn_json::options::{
     CredentialCreationOptions, CredentialRequestOptions, PublicKeyCredentialCreationOptions,

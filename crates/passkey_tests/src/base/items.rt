@@ -1,5 +1,5 @@
 //! Data items as values: what they are made of, and how they are printed.
-use crate::checks::assert_shown;
+use crate::base::checks::assert_shown;
 use passkey_cbor::{CborError, Cursor, Float, Integer, Simple, Value};
 use std::process::Abort;
 use std::test::Fail;

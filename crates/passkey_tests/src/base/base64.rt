@@ -1,5 +1,5 @@
 //! Base64 and base64url (RFC 4648).
-use crate::checks::check_text;
+use crate::base::checks::check_text;
 use passkey_bytes::encoding::try_from_base64url;
 use passkey_bytes::{Bytes, BytesFault, NotBase64Encoded};
 use std::process::Abort;

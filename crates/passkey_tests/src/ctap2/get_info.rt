@@ -1,5 +1,5 @@
 //! authenticatorGetInfo responses (CTAP 2.1, section 6.4; CTAP 2.2 for the members from 0x16 on).
-use crate::tables::{assert_read, bytes_of, shown};
+use crate::ctap2::tables::{assert_read, bytes_of, shown};
 use passkey_ctap2::get_info::{Options, Response};
 use std::process::Abort;
 

@@ -1,5 +1,5 @@
 //! Members that are put one by one.
-use crate::json::{assert_shows, debugged, parsed};
+use crate::json::checks::{assert_shows, debugged, parsed};
 use passkey_json::{JsonFault, Object, PlainJsonRecord};
 use passkey_webauthn::AuthenticationExtensionsPrfOutputs;
 use serde_json::Value;
