@@ -27,9 +27,9 @@ WIDE = Path(__file__).with_name("wide.c")
 HEAP = Path(__file__).with_name("wasm_heap.h")
 
 FRONT_OF_LOOK = """\
-/* puffgrit_look.c: the calls of puffgrit.h that look at data items and authenticator data, for any compiler of C99. It calls no function,
-   takes no memory but the stack, and has nothing that changes. Made by tools/release from crates/passkey_view_c; Puffgrit's
-   bindings/c/README.md says what is proved, and what is trusted. MIT or Apache-2.0. */
+/* puffgrit_look.c: the calls of puffgrit.h that look at data items and authenticator data, and that write data items, for any compiler of
+   C99. It calls no function, takes no memory but the stack, and has nothing that changes. Made by tools/release from
+   crates/passkey_view_c; Puffgrit's bindings/c/README.md says what is proved, and what is trusted. MIT or Apache-2.0. */
 #include "puffgrit.h"
 
 """

@@ -1,5 +1,5 @@
 /* puffgrit.h: messages of CTAP2 and WebAuthn, decoded, checked and encoded again, and data items of CBOR and authenticator data,
-   looked at in place, by proved code. Made by tools/header.
+   looked at in place and written, by proved code. Made by tools/header.
 
    - THE POINTER OF A BUFFER MUST NOT BE NULL, even for no bytes. A buffer has at most SSIZE_MAX bytes, no other thread writes it
      during a call, and no output overlaps it or another output.
@@ -10,15 +10,16 @@
      The other calls call no function of C, and may be made from a signal handler.
    - A call that finds nothing returns false, and leaves its output as it was.
    - A call that looks at a data item looks at all of it: it takes as long as puffgrit_item_len. No proof covers the stack: over arrays,
-     maps and tags of 256 levels puffgrit_rewrite of libpuffgrit took up to 160 KiB, puffgrit_is_canonical 56, the other calls
-     that allocate 352, and the others 10; README.md has the figures of puffgrit.c.
+     maps and tags of 256 levels puffgrit_rewrite of libpuffgrit took up to 160 KiB, the other calls that allocate 352,
+     puffgrit_is_canonical, puffgrit_not_canonical, puffgrit_write_item and puffgrit_write_end 68, and the others 10; README.md
+     has the figures of puffgrit.c.
    - A data item is in CTAP2's canonical form (CTAP 2.1, section 8) if its heads are as short as they can be, its lengths definite, the
      keys of each map in ascending order, and neither a tag nor undefined is in it; a float may have any width. puffgrit_rewrite writes
      the shortest heads, definite lengths, null for undefined, and a message's own members in order. What it keeps as a data item keeps
      its tags and its map keys in their order: an input of the kind cbor, attestation statements, COSE keys, certifications, parameters
      of authenticatorConfig, and extension outputs. So what it writes is canonical if these are.
-   - libpuffgrit is for Linux on x86-64, on any such processor: it uses no extension but SSE2. puffgrit_look.c has the calls that look as
-     C99 for any other processor. */
+   - libpuffgrit is for Linux on x86-64, on any such processor: it uses no extension but SSE2. puffgrit_look.c has the calls that take no
+     memory as C99 for any other processor. */
 #ifndef PUFFGRIT_H
 #define PUFFGRIT_H
 

@@ -1,6 +1,7 @@
 /* stack: answers requests from standard input, one a line, for tools/test-c: how many bytes of the stack calls take.
 
-   check HEX: puffgrit_is_canonical; look HEX: the one of the other calls that look which takes the most; with LOOKS_ALONE only these.
+   check HEX: the one of the calls that look for CTAP2's canonical form which takes the most; look HEX: of the other calls that look; with
+   LOOKS_ALONE only these.
    rewrite KIND HEX: puffgrit_rewrite; show KIND HEX: the one of the other calls that allocate, of which puffgrit_encode is given the
    input, and what puffgrit_values makes of it. `-` is no bytes. */
 #define _POSIX_C_SOURCE 200809L
@@ -23,8 +24,13 @@ static void *nothing(void *unused) {
 }
 
 static void *check(void *unused) {
+    static uint8_t copy[MOST];
+    size_t offset = 0, len = 0;
     (void)unused;
     (void)puffgrit_is_canonical(input, input_len);
+    (void)puffgrit_not_canonical(input, input_len, 256, &offset);
+    (void)puffgrit_write_item(copy, sizeof copy, &len, input, input_len);
+    (void)puffgrit_write_end(input, input_len, input_len);
     return 0;
 }
 
