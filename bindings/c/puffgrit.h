@@ -257,7 +257,7 @@ uint32_t puffgrit_encode(uint32_t kind, const uint8_t *json, size_t json_len, ui
    CTAP2's order (major type 5). len is the length of what stands in out so far, 0 at first, and grows by what is
    appended. Returns true then. If there is no room for all of it, returns false, leaves out as it was, and sets len to
    SIZE_MAX, with which each later call returns false, too: so it is enough to look at what puffgrit_write_end returns.
-   Never writes beyond out, or what stands in it already. (RFC 8949, section 3.1; CTAP 2.1, section 8.) */
+   Never writes beyond out, nor over what stands in it. (RFC 8949, section 3.1; CTAP 2.1, section 8.) */
 puffgrit_bool puffgrit_write_map(uint8_t *out, size_t out_len, size_t *len, uint64_t members);
 
 /* Appends the head of an array of so many elements, which are to be appended next (major type 4), as puffgrit_write_map

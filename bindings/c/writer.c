@@ -7,8 +7,8 @@
 #include "puffgrit.h"
 
 /* The calls, one word each: {n and [n heads of a map and an array, a number, hHEX a byte string, "TEXT a text string (%HEX of one by its
-   bytes), false, true, null, =HEX a data item as it is. What they append, in hexadecimal, of which `.` is what a failing call would
-   append; and whether it is a canonical data item, and nothing after it. */
+   bytes), false, true, null, =HEX a data item as it is. What they append, in hexadecimal, up to the first call that fails in any buffer; and
+   whether it is one canonical data item. */
 typedef struct {
     const char *calls;
     const char *hex;

@@ -348,7 +348,7 @@ def _key(name: str, key: Item) -> Any:
 
 
 def encode(kind: str, value: Any) -> bytes:
-    """The encoding of a data item or a message (a kind of `EXACT`) from its values, as `rewrite` writes it, without unknown members.
+    """The encoding of an input (of a kind of `EXACT`) from its values, as `rewrite` writes it, without unknown members.
 
     A value is `None`, a `bool`, `int`, `float` (of 64 bits), `str`, `bytes`, `uuid.UUID`, list, tuple or dictionary of values, or an
     `Item`, which is taken as it is encoded. A key is a member's name or another text as `str`, an `int`, `bytes` or an `Item`, and

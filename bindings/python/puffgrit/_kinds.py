@@ -18,7 +18,7 @@ DECODED = (
     "ctap-ga-request ctap-mc-response ctap-ga-response attestation-object"
 ).split()
 
-#: The kinds of `encode`, and of `decode` if it is exact: data items and messages.
+#: The kinds of `encode`, and of `decode` if it is exact: data items, messages, COSE keys and attestation statements.
 EXACT = (
     "cbor mc-request mc-response ga-request ga-response info hmac-input pin-request pin-response bio-request bio-response cm-request "
     "cm-response lb-request lb-response lb-entry cfg-request cfg-min-pin-length cfg-vendor cose-key info-23 mc-inputs mc-outputs "

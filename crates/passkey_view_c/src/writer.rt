@@ -104,8 +104,8 @@ fn put_head(out: &mut [u8], len: &mut usize, major: u8, argument: u64, content: 
 /// value, in CTAP2's order (major type 5). `len` is the length of what stands in `out` so far, 0 at first,
 /// and grows by what is appended. Returns true then. If there is no room for all of it, returns false, leaves
 /// `out` as it was, and sets `len` to SIZE_MAX, with which each later call returns false, too: so it is
-/// enough to look at what `puffgrit_write_end` returns. Never writes beyond `out`, or what stands in it
-/// already. (RFC 8949, section 3.1; CTAP 2.1, section 8.)
+/// enough to look at what `puffgrit_write_end` returns. Never writes beyond `out`, nor over what stands in
+/// it. (RFC 8949, section 3.1; CTAP 2.1, section 8.)
 #[unsafe(no_mangle)]
 pub extern "C" fn puffgrit_write_map(out: &mut [u8], len: &mut usize, members: u64) -> bool
     ensures { Puts (shortest_head 5 members) out.old len.old out.new len.new result }

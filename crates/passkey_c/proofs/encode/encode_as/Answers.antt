@@ -14,7 +14,8 @@ returns-clause-err c =
     let d = definition c.args.kind in
     let fault = c.in-Err-encode.fault in
     let u = c.rejected.result in
+    let told = option_map string_bytes u.text in
     unencoded_by fault (item_of c.in-Ok.value) c.in-Ok.ensures.ok c.in-Ok-made.ensures.written
     (subst (λ (b : List ℕ). IsRefusal d b fault) c.as_slice.ensures.value c.in-Err-encode.ensures.err)
-    (subst (λ (b : List ℕ). IsRejection d b fault u.status (option_map string_bytes u.text)) c.as_slice-in-Err-encode.ensures.value
+    (subst (λ (b : List ℕ). IsRejection d b fault u.status told) c.as_slice-in-Err-encode.ensures.value
     c.rejected.ensures)

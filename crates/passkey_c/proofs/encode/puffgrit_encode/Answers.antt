@@ -10,9 +10,10 @@ pub returns-in-Some : goal.returns-in-Some
 returns-in-Some c =
     let d = definition c.in-Some.kind in
     let json = c.args.json.now in
-    let old : Encoding = record { out = c.args.out.now; len = c.args.len.now; why = c.args.why.now; why_size = c.args.why_size.now } in
-    let new : Encoding = record
-    { out = c.tell_encoding.new.out; len = c.tell_encoding.new.len; why = c.tell_encoding.new.why; why_size = c.tell_encoding.new.why_size } in
+    let args = c.args in
+    let told = c.tell_encoding.new in
+    let old : Encoding = record { out = args.out.now; len = args.len.now; why = args.why.now; why_size = args.why_size.now } in
+    let new : Encoding = record { out = told.out; len = told.len; why = told.why; why_size = told.why_size } in
     subst (λ (k : Option Kind). EncodesAs k json old new c.tell_encoding.result) c.in-Some.ensures
     (encoded_of _ (EncodesValues d json) (IsUnencoded d json) c.encode_as.result c.encode_as.ensures.ok c.encode_as.ensures.err
     c.tell_encoding.ensures)

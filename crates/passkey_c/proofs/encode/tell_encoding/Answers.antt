@@ -13,5 +13,7 @@ pub returns-in-None : goal.returns-in-None
 returns-in-None c = rw c.in-Err.is (untold c.in-Err.refused (rw c.in-None.is refl))
 
 pub returns : goal.returns
-returns c = rw c.in-Err.is (told_as c.in-Err.refused (string_bytes c.in-Some.text) c.as_bytes-bytes.result.now (rw c.in-Some.is refl)
+returns c =
+    let text = string_bytes c.in-Some.text in
+    rw c.in-Err.is (told_as c.in-Err.refused text c.as_bytes-bytes.result.now (rw c.in-Some.is refl)
     c.as_bytes-bytes.ensures.value c.put_front.ensures refl)

@@ -14,4 +14,5 @@ returns-in-Some c =
     let old : Outputs = record { read = c.args.read.now; out = c.args.out.now; len = c.args.len.now } in
     let new : Outputs = record { read = c.write.new.read; out = c.write.new.out; len = c.write.new.len } in
     subst (λ (k : Option Kind). WritesValues k input old new c.write.result) c.in-Some.ensures
-    (writes_of _ (ShowsValues d input) (HasNoValues d input) c.values_as.result c.values_as.ensures.ok c.values_as.ensures.err c.write.ensures)
+    (writes_of _ (ShowsValues d input) (HasNoValues d input) c.values_as.result c.values_as.ensures.ok
+    c.values_as.ensures.err c.write.ensures)
