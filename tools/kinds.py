@@ -61,11 +61,6 @@ def has_text(name):
     return not name.startswith(("att-", "tpm-"))
 
 
-def has_values(name):
-    """Whether inputs of this kind are JSON values, exactly, and are encoded from them: data items, messages, keys and statements."""
-    return name in of_bytes() and name not in ("auth", "tpm-cert-info", "tpm-pub-area")
-
-
 def found():
     """Returns the kinds that passkey_inspect finds where none is named."""
     text = (CRATES / FOUND).read_text(encoding="utf-8").partition("FOUND_KINDS")[2].partition("pub fn")[0]

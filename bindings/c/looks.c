@@ -7,7 +7,7 @@
    bytes were read, the length and, in hexadecimal, the output if the status is 0, and `changed` if bytes after it changed; to `explain` the
    status, how many bytes were read, the offset and the length of what is refused, the length of the text and the text in hexadecimal; to
    `encode` the status, the length, the length of the text, and the output and the text. `back` compares the encoding of the input's values
-   with the input rewritten, each in an output of exactly its length: `same`, `none` where there are no values, or `other`. */
+   with the input rewritten, each in an output of exactly its length: `same`, `none` where the input is rejected, or `other`. */
 #include <inttypes.h>
 #include <stdio.h>
 #include <stdlib.h>
@@ -172,7 +172,7 @@ static void back(uint32_t kind, buffer input) {
     uint32_t status, shown;
     size_t read = 55, taken = 55;
     buffer wanted = made(puffgrit_rewrite, kind, input, &status, &read), values = made(puffgrit_values, kind, input, &shown, &taken);
-    if (shown == PUFFGRIT_UNKNOWN_KIND || (shown == status && status != PUFFGRIT_OK)) {
+    if (shown == status && status != PUFFGRIT_OK) {
         printf("none");
     } else {
         printf("%s", shown == status && taken == read && encodes(kind, values, wanted) ? "same" : "other");

@@ -189,14 +189,15 @@ typedef struct {
     uint32_t flags;
 } puffgrit_auth_data;
 
-/* Writes the data item at the beginning of the input, which this kind accepts, as JSON that is this item and nothing
-   else, so that puffgrit_encode encodes it again, changed or not: to the beginning of out, and the JSON's length to len;
-   and to read how many bytes of the input the item takes. Members have their names, and those that the message's table
-   hasn't stay. Integers, texts, arrays and objects are themselves, and byte strings base64url without padding where the
-   table wants bytes; what JSON can't say otherwise is an object of one member, as {"$bytes": "AQ"} or {"$cbor":
-   "f93e00"}. passkey_inspect --values prints the same. puffgrit_json is for people, and drops what this keeps. Returns
-   what puffgrit_rewrite returns, with the same faults, and leaves out, len and read as it does; PUFFGRIT_UNKNOWN_KIND
-   also for a kind whose inputs have no such JSON. (RFC 8949; RFC 8259; CTAP 2.1, section 6.) */
+/* Writes what this kind accepts at the beginning of the input as JSON that stands for it, so that puffgrit_encode
+   encodes it again, changed or not: to the beginning of out, and the JSON's length to len; and to read how many bytes of
+   the input that is. A message's members have their names, and those that its table hasn't stay. Integers, texts, arrays
+   and objects are themselves, and byte strings base64url without padding where the table wants bytes; what JSON can't
+   say otherwise is an object of one member, as {"$bytes": "AQ"} or {"$cbor": "f93e00"}. Authenticator data are an object
+   of their parts, a COSE key one of its parameters by their names, a structure of a TPM is base64url, and a JSON text as
+   puffgrit_rewrite writes it. passkey_inspect --values prints the same. puffgrit_json is for people, and drops what this
+   keeps. Returns what puffgrit_rewrite returns, with the same faults, and leaves out, len and read as it does. (RFC
+   8949; RFC 8259; RFC 9052, section 7; WebAuthn Level 3, section 6.1; CTAP 2.1, section 6.) */
 uint32_t puffgrit_values(uint32_t kind, const uint8_t *input, size_t input_len, size_t *read, uint8_t *out, size_t out_len, size_t *len);
 
 /* Decodes the input as this kind, encodes the result again, in CTAP2's canonical form or as compact JSON, and writes it
@@ -238,19 +239,19 @@ uint32_t puffgrit_json(uint32_t kind, const uint8_t *input, size_t input_len, si
    nothing is written. (CTAP 2.1, section 6; RFC 8949, section 3; WebAuthn Level 3, sections 5, 6.1 and 8.) */
 uint32_t puffgrit_explain(uint32_t kind, const uint8_t *input, size_t input_len, size_t *read, puffgrit_refusal *refusal, uint8_t *out, size_t out_len, size_t *len);
 
-/* Encodes what the JSON is as this kind: writes the encoding of the data item, as puffgrit_rewrite does of one in any
-   encoding, to the beginning of out and its length to len. The JSON is what puffgrit_values writes, changed, or written
-   by hand: members may have their names or numbers, white space and numbers may be written in any way, and what the
-   table hasn't isn't encoded. Returns PUFFGRIT_OK then; PUFFGRIT_TOO_SHORT, with the length that is needed in len, if
-   the output has fewer bytes; PUFFGRIT_OUT_OF_MEMORY if an allocation fails; PUFFGRIT_UNKNOWN_KIND, also for a kind
-   whose inputs have no such JSON; PUFFGRIT_FAULT_BAD_JSON if the text isn't JSON in UTF-8 of at most 128 levels;
-   PUFFGRIT_FAULT_NO_ITEM if a value in it is no data item; or the fault with which the kind refuses the data item, as
-   puffgrit_rewrite. out stays as it was but for PUFFGRIT_OK, and so does len but for PUFFGRIT_OK and PUFFGRIT_TOO_SHORT.
-   For PUFFGRIT_FAULT_NO_ITEM, and where a message's table refuses the data item, a text is written to the beginning of
-   why, or as much of it as there is room for, and its whole length to why_size: by its names which value is refused, and
-   what is wanted there, as "permissions: an unsigned integer below 4294967296 is wanted", or "member 2 is missing". It
-   is UTF-8, with names as they are in the JSON. Otherwise these stay as they were. (RFC 8259; RFC 8949; CTAP 2.1,
-   sections 6 and 8.) */
+/* Encodes what the JSON stands for as this kind: writes what puffgrit_rewrite writes of that input to the beginning of
+   out, and its length to len. The JSON is what puffgrit_values writes, changed, or written by hand: members may have
+   their names or numbers, authenticator data and COSE keys their parts or one string, white space and numbers may be
+   written in any way, and what the table hasn't isn't encoded. Returns PUFFGRIT_OK then; PUFFGRIT_TOO_SHORT, with the
+   length that is needed in len, if the output has fewer bytes; PUFFGRIT_OUT_OF_MEMORY if an allocation fails;
+   PUFFGRIT_UNKNOWN_KIND; PUFFGRIT_FAULT_BAD_JSON if the text isn't JSON in UTF-8 of at most 128 levels;
+   PUFFGRIT_FAULT_NO_ITEM if a value in it is no data item, or no byte string where one is wanted; or the fault with
+   which the kind refuses the input, as puffgrit_rewrite. out stays as it was but for PUFFGRIT_OK, and so does len but
+   for PUFFGRIT_OK and PUFFGRIT_TOO_SHORT. For PUFFGRIT_FAULT_NO_ITEM, and where a message's table refuses the data item,
+   a text is written to the beginning of why, or as much of it as there is room for, and its whole length to why_size: by
+   its names which value is refused, and what is wanted there, as "permissions: an unsigned integer below 4294967296 is
+   wanted", or "member 2 is missing". It is UTF-8, with names as they are in the JSON. Otherwise these stay as they were.
+   (RFC 8259; RFC 8949; CTAP 2.1, sections 6 and 8.) */
 uint32_t puffgrit_encode(uint32_t kind, const uint8_t *json, size_t json_len, uint8_t *out, size_t out_len, size_t *len, uint8_t *why, size_t why_len, size_t *why_size);
 
 /* Appends the head of a map of so many members, each of which is to be appended next, its key before its value, in

@@ -20,5 +20,10 @@ export const DECODED = [
   "ctap-ga-response", "attestation-object",
 ];
 
+/** The kinds of JSON texts. */
+export const RECORDS = [
+  "creation", "request", "created", "authenticated", "client-data",
+];
+
 /** The kinds of `explain`: all. */
 export const EXPLAINED = KINDS;

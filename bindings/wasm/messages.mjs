@@ -3,13 +3,13 @@
 //
 // A kind is one of the names in KINDS; bytes are a Uint8Array, of a JSON text its UTF-8. Bytes after a data item, a message or
 // authenticator data are ignored. What a kind rejects is thrown as a Fault.
-import { DECODED, EXPLAINED, KINDS } from "./kinds.mjs";
+import { DECODED, EXPLAINED, KINDS, RECORDS } from "./kinds.mjs";
 import { instantiate, looks, placing } from "./puffgrit.mjs";
 
 export * from "./kinds.mjs";
 export * from "./puffgrit.mjs";
 
-const OK = 0, TOO_SHORT = 1, OUT_OF_MEMORY = 2, UNKNOWN_KIND = 3, FIRST_FAULT = 16;
+const OK = 0, TOO_SHORT = 1, OUT_OF_MEMORY = 2, FIRST_FAULT = 16;
 const FAULTS = [
   "DecodeFailed", "NotAMap", "BadKey", "Repeated", "Refused", "Missing", "OutOfRangeIntegerValue", "DuplicateMapKey", "UnexpectedItem",
   "Float", "BadJson", "NoItem",
@@ -53,16 +53,20 @@ function valueOf(text) {
   });
 }
 
-/** The JSON that a value is. Nothing is converted: a number has to be the integer that it says, and what JSON would leave out is refused. */
-function jsonOf(value) {
-  return JSON.stringify(value, function (name, made) {
+/**
+ * The JSON that a value is; that of a record has no escapes, and bytes in it are base64url. Nothing is converted: a number has to be the
+ * integer that it says, and what JSON would leave out is refused.
+ */
+function jsonOf(value, isRecord) {
+  const text = JSON.stringify(value, function (name, made) {
     const it = this[name];
     if (typeof it === "bigint") return { $int: String(it) };
-    if (isBytes(it)) return { $bytes: base64urlOf(it) };
+    if (isBytes(it)) return isRecord ? base64urlOf(it) : { $bytes: base64urlOf(it) };
     if (typeof it === "number" && !Number.isSafeInteger(it)) throw new RangeError(`${it} is no integer, or has to be a BigInt`);
     if (["undefined", "function", "symbol"].includes(typeof it)) throw new TypeError(`a value can't be ${typeof it}`);
     return made;
   });
+  return isRecord ? text.replace(/\{"\$int":"(-?\d+)"\}/g, "$1") : text;
 }
 
 /** Returns all calls of a module: of its bytes, or of a WebAssembly.Module. One in which a call trapped has to be loaded again. */
@@ -96,12 +100,11 @@ export async function loadAll(source) {
 
   /** The encoding of what the value is as this kind, one of KINDS, as `rewrite` writes it. */
   function encode(kind, value) {
-    const number = numberOf(kind, KINDS), json = new TextEncoder().encode(jsonOf(value));
+    const number = numberOf(kind, KINDS), json = new TextEncoder().encode(jsonOf(value, RECORDS.includes(kind)));
     for (let room = json.length + 64, most = 1024; ; ) {
       const { status, len, size, bytes, why } = encoded(number, json, room, most);
       if (status === OK) return bytes;
       if (status === OUT_OF_MEMORY) throw new RangeError("puffgrit is out of memory");
-      if (status === UNKNOWN_KIND) throw new RangeError(`no values of the kind ${kind}`);
       if (status !== TOO_SHORT && size <= most) throw new Fault(status, size === 0 ? {} : { explanation: new TextDecoder().decode(why) });
       [room, most] = [Math.max(room, len), Math.max(most, size)];
     }
@@ -146,7 +149,6 @@ export async function loadAll(source) {
   function valuesFront(kind, bytes) {
     const { status, bytes: text, read } = whole("puffgrit_values", numberOf(kind, KINDS), bytes);
     if (status === OK) return { value: valueOf(new TextDecoder().decode(text)), read };
-    if (status === UNKNOWN_KIND) throw new RangeError(`no values of the kind ${kind}`);
     throw explain(kind, bytes) ?? new Fault(status);
   }
 

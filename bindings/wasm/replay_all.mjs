@@ -25,7 +25,7 @@ function answer(name, kind, room, bytes) {
 
 /** Returns whether messages.mjs says the same. */
 function isSame(name, kind, bytes, { status, words }) {
-  const word = KINDS[kind - 1], kinds = { rewrite: KINDS, json: DECODED, explain: EXPLAINED, values: status === 3 ? [] : KINDS }[name];
+  const word = KINDS[kind - 1], kinds = { rewrite: KINDS, json: DECODED, explain: EXPLAINED, values: KINDS }[name];
   try {
     const made = { rewrite: all.rewriteFront, json: all.decodeFront, explain: all.explain, values: all.valuesFront }[name](word, bytes);
     if (name === "values" && hexOf(all.encode(word, made.value)) !== hexOf(all.rewrite(word, bytes))) return false;

@@ -17,11 +17,11 @@ from dataclasses import dataclass
 from typing import Any, Callable, Final, Iterator
 
 from . import _c
-from ._kinds import DECODED, EXACT, EXPLAINED, KINDS, RULES
+from ._kinds import DECODED, EXACT, EXPLAINED, KINDS, RECORDS, RULES
 
 __all__ = [
-    "ARRAY", "BYTES", "DECODED", "EXACT", "EXPLAINED", "FLOAT", "INDEFINITE", "KINDS", "MAP", "NEGATIVE", "RULES", "SIMPLE", "TAG", "TEXT",
-    "UNSIGNED", "AuthData", "Fault", "Item", "NotCanonical", "auth_parts", "decode", "decode_front", "elements", "encode", "explain",
+    "ARRAY", "BYTES", "DECODED", "EXACT", "EXPLAINED", "FLOAT", "INDEFINITE", "KINDS", "MAP", "NEGATIVE", "RECORDS", "RULES", "SIMPLE",
+    "TAG", "TEXT", "UNSIGNED", "AuthData", "Fault", "Item", "NotCanonical", "auth_parts", "decode", "decode_front", "elements", "encode", "explain",
     "is_canonical", "is_client_data", "item_at", "item_len", "member", "not_canonical", "rewrite", "rewrite_front", "version",
 ]  # fmt: skip
 
@@ -292,9 +292,11 @@ def decode(kind: str, data: bytes, *, exact: bool = False) -> Any:
     Members have their names, also those of authenticator data, keys and attestation statements inside a message; byte strings are
     base64url without padding, AAGUIDs are UUIDs, and algorithms and flags have their names. Raises what `rewrite` raises.
 
-    If it is exact, of a kind of `EXACT`, nothing is lost, and `encode` makes what `rewrite` makes of the data: byte strings are `bytes`,
-    AAGUIDs `uuid.UUID`, integers `int`, floats of 64 bits `float`; members of a message's tables have their names, and other keys are
-    `int`, `str` or `bytes`. What Python has no value for is an `Item` of its own bytes: a tag, a float of fewer bits, a key that is
+    If it is exact, of any kind, nothing is lost, and `encode` makes what `rewrite` makes of the data: byte strings are `bytes`, AAGUIDs
+    `uuid.UUID`, integers `int`, floats of 64 bits `float`; members of a message's tables and parameters of a key have their names, and
+    other keys are `int`, `str` or `bytes`. Authenticator data are a dictionary of their parts, or `bytes` where these are encoded in
+    another way than CTAP2's canonical form, and inside a message always `bytes`. Structures of a TPM are `bytes`, and of a JSON text it is
+    what `rewrite` makes of it. What Python has no value for is an `Item` of its own bytes: a tag, a float of fewer bits, a key that is
     an array, a map whose keys aren't in CTAP2's order or that has a key twice, a message that has a name where its table has a number,
     and what is inside 60 arrays and maps.
     """
@@ -303,10 +305,31 @@ def decode(kind: str, data: bytes, *, exact: bool = False) -> Any:
 
 def decode_front(kind: str, data: bytes, *, exact: bool = False) -> tuple[Any, int]:
     """What `decode` returns, and how many bytes of the data were decoded."""
-    _number(kind, EXACT if exact else DECODED)
+    _number(kind, KINDS if exact else DECODED)
     text, read = _written(_library.puffgrit_values if exact else _library.puffgrit_json, kind, data)
     told = json.loads(text)
-    return (_value(told, _whole(rewrite("cbor", data[:read]))) if exact else told), read
+    return (_exact(kind, told, data[:read]) if exact else told), read
+
+
+def _exact(kind: str, told: Any, data: bytes) -> Any:
+    """What `decode` returns of data that puffgrit_values shows so."""
+    if kind in RECORDS:
+        return told
+    if kind.startswith("tpm-"):
+        return data
+    if kind != "auth":
+        return _value(told, _whole(rewrite("cbor", data)))
+    parts = auth_parts(data)
+    if parts is None or not isinstance(told, dict) or "rpIdHash" not in told:
+        return data
+    told["rpIdHash"] = parts.rp_id_hash
+    if parts.public_key is not None:
+        attested = told["attestedCredentialData"]
+        key = _value(attested["credentialPublicKey"], parts.public_key)
+        attested.update(aaguid=uuid.UUID(bytes=parts.aaguid), credentialId=parts.credential_id, credentialPublicKey=key)
+    if parts.extensions is not None:
+        told["extensions"] = _value(told["extensions"], parts.extensions)
+    return told
 
 
 def _whole(encoding: bytes) -> Item:
@@ -348,7 +371,7 @@ def _key(name: str, key: Item) -> Any:
 
 
 def encode(kind: str, value: Any) -> bytes:
-    """The encoding of an input (of a kind of `EXACT`) from its values, as `rewrite` writes it, without unknown members.
+    """The encoding of an input from its values, as `rewrite` writes it, without unknown members.
 
     A value is `None`, a `bool`, `int`, `float` (of 64 bits), `str`, `bytes`, `uuid.UUID`, list, tuple or dictionary of values, or an
     `Item`, which is taken as it is encoded. A key is a member's name or another text as `str`, an `int`, `bytes` or an `Item`, and
@@ -360,7 +383,7 @@ def encode(kind: str, value: Any) -> bytes:
     than 127 lists and dictionaries. Raises `TypeError` for a value of another type, `UnicodeEncodeError` for a `str` with a lone
     surrogate, and `MemoryError`.
     """
-    number, text = _number(kind, EXACT), _json(value).encode()
+    number, text = _number(kind), (_record(value) if kind in RECORDS else _json(value)).encode()
     room, why_room = len(text) + 256, 1024
     length, size = ctypes.c_size_t(), ctypes.c_size_t()
     while True:
@@ -379,6 +402,11 @@ def encode(kind: str, value: Any) -> bytes:
     fault = _fault(status)
     fault.explanation = why.raw[: size.value].decode() or None
     raise fault
+
+
+def _record(value: Any) -> str:
+    """The JSON text of a record, whose byte strings are base64url."""
+    return json.dumps(value, ensure_ascii=False, default=lambda it: base64.urlsafe_b64encode(it).decode().rstrip("="))
 
 
 def _json(value: Any) -> str:

@@ -18,13 +18,13 @@ DECODED = (
     "ctap-ga-request ctap-mc-response ctap-ga-response attestation-object"
 ).split()
 
-#: The kinds of `encode`, and of `decode` if it is exact: data items, messages, COSE keys and attestation statements.
-EXACT = (
-    "cbor mc-request mc-response ga-request ga-response info hmac-input pin-request pin-response bio-request bio-response cm-request "
-    "cm-response lb-request lb-response lb-entry cfg-request cfg-min-pin-length cfg-vendor cose-key info-23 mc-inputs mc-outputs "
-    "mc-unsigned ga-inputs ga-outputs ga-unsigned att-packed att-tpm att-android-key att-android-safetynet att-fido-u2f att-none "
-    "att-apple att-compound ctap-mc-request ctap-ga-request ctap-mc-response ctap-ga-response attestation-object"
+#: The kinds of JSON texts.
+RECORDS = (
+    "creation request created authenticated client-data"
 ).split()
+
+#: The kinds of `encode`, and of `decode` if it is exact: all.
+EXACT = KINDS
 
 #: The kinds of `explain`: all.
 EXPLAINED = KINDS

@@ -236,9 +236,11 @@ class Puffgrit(unittest.TestCase):
         for row, answer in zip(inputs, answers):
             kind, _, given = row.partition(" ")
             # of a statement a fault is an output, too
-            if kind in puffgrit.EXACT and answer.startswith("0 ") and set(answer[2:]) <= set("0123456789abcdef"):
-                made = puffgrit.encode(kind, puffgrit.decode(kind, bytes.fromhex(given), exact=True))
-                self.assertEqual(made.hex(), answer[2:], row)
+            is_record = kind in puffgrit.RECORDS
+            if kind in puffgrit.EXACT and answer.startswith("0 ") and (is_record or set(answer[2:]) <= set("0123456789abcdef")):
+                data = given.encode() if is_record else bytes.fromhex(given)
+                made = puffgrit.encode(kind, puffgrit.decode(kind, data, exact=True))
+                self.assertEqual(made.decode() if is_record else made.hex(), answer[2:], row)
                 tried.add(kind)
         self.assertEqual(tried | {"cose-key"}, set(puffgrit.EXACT))
 

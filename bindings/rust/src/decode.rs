@@ -113,8 +113,9 @@ pub fn json(kind: Kind, input: &[u8], out: &mut [u8]) -> Result<Lengths, Error> 
     lengths(status, read, len)
 }
 
-/// Writes the data item at the beginning of the input, which the kind accepts, as JSON that is this
-/// item and nothing else to the beginning of the output, so that [`encode`] encodes it again.
+/// Writes what the kind accepts at the beginning of the input as JSON that stands for it to the
+/// beginning of the output, so that [`encode`] encodes it again: a message with its unknown members,
+/// authenticator data by their parts, a COSE key by its parameters.
 pub fn values(kind: Kind, input: &[u8], out: &mut [u8]) -> Result<Lengths, Error> {
     let (mut read, mut len) = (0, 0);
     let (given, start, room) = (input.as_ptr(), out.as_mut_ptr(), out.len());
@@ -219,7 +220,8 @@ mod tests {
         ] {
             assert_eq!(encode(Kind::ClientPinRequest, json, &mut out, &mut why), Err((Error::Rejected { fault, member }, told)));
         }
-        assert_eq!(encode(Kind::Auth, "{}", &mut out, &mut why), Err((Error::UnknownKind, "")));
+        let no_bytes = Error::Rejected { fault: Fault::NoItem, member: None };
+        assert_eq!(encode(Kind::TpmPubArea, "{}", &mut out, &mut why), Err((no_bytes, "bytes in base64url are wanted")));
     }
 
     #[test]

@@ -1,25 +1,22 @@
 -- What is written of an encoding, by what is known of it.
 use Rattle.std.specs.Prelude.{◌≡◌, ◌++◌, ℕ, List, length, take, drop, Option, None, Some, option_map, Result, Ok, Err, IfOk, IfErr, string_bytes}
 use Rattle.std.proofs.Common.{subst, sym, inl, inr, refl}
-use Rattle.passkey_c.specs.Values.{Blames, Encoded, fits, long, refused, Encoding, IsPut, TellsEncoding}
+use Rattle.passkey_c.specs.Values.{Encoded, fits, long, refused, Encoding, IsPut, TellsEncoding}
 use Rattle.passkey_c.specs.Values.{IsRejection, IsUnencoded, exhausted, rejected}
 use Rattle.passkey_c.specs.declared.encode.Unencoded.{Unencoded}
 use Rattle.passkey_catalogue.specs.Rewriting.{IsRefusal}
-use Rattle.passkey_catalogue.specs.Values.{ReadsValues}
+use Rattle.passkey_catalogue.specs.Values.{StandsFor, values_of}
 use Rattle.passkey_catalogue.specs.declared.form.Form.{Form}
-use Rattle.passkey_cbor.specs.Item.{Item}
-use Rattle.passkey_cbor.specs.Written.{written}
 use Rattle.passkey_rewrite.specs.Definition.{Definition}
 use Rattle.passkey_rewrite.specs.declared.fault.RunFault.{RunFault}
 
--- The encoding of the item that the text is, is refused.
-pub unencoded_by : {d : Definition Form} {text bytes : List ℕ} {status : ℕ} {told : Option (List ℕ)} (fault : RunFault)
-    (front : Item) → ReadsValues d text front → bytes ≡ written front → IsRefusal d bytes fault
-    → IsRejection d bytes fault status told → IsUnencoded d text status told
-unencoded_by {d} {text} {bytes} {status} {told} fault front reads is refusal rejection = elim rejection [
+-- The input that the text stands for is refused.
+pub unencoded_by : {d : Definition Form} {text : List ℕ} {status : ℕ} {told : Option (List ℕ)} (fault : RunFault)
+    (input : List ℕ) → StandsFor (values_of d) text input → IsRefusal d input fault
+    → IsRejection d input fault status told → IsUnencoded d text status told
+unencoded_by fault input stands refusal rejection = elim rejection [
   | inl h ↦ exhausted h.0 h.1
-  | inr h ↦ rejected front reads fault (subst (λ (b : List ℕ). IsRefusal d b fault) is refusal) h.0 h.1
-      (subst (λ (b : List ℕ). Blames d b told) is h.2)
+  | inr h ↦ rejected input stands fault refusal h.0 h.1 h.2
 ]
 
 module _ {old : Encoding} where

@@ -1,11 +1,9 @@
 -- What calls that write inputs as values of JSON, and encode such values, return, and leave in the caller's memory.
 use Rattle.std.specs.Prelude.{◌≡◌, ◌==◌, ◌<◌, ◌≤◌, ◌⊎◌, ◌++◌, ℕ, false, List, length, take, drop}
 use Rattle.std.specs.Prelude.{Option, None, Some, option_map, Result, Ok, Err, string_bytes}
-use Rattle.passkey_cbor.specs.Item.{Item}
-use Rattle.passkey_cbor.specs.Written.{written}
 use Rattle.passkey_catalogue.specs.Catalogue.{definition}
 use Rattle.passkey_catalogue.specs.Rewriting.{IsRefusal}
-use Rattle.passkey_catalogue.specs.Values.{EncodesValues, ReadsValues, RefusesText, RefusesValues, ShowsValues}
+use Rattle.passkey_catalogue.specs.Values.{EncodesValues, RefusesText, ShowsValues, StandsFor, values_of}
 use Rattle.passkey_catalogue.specs.declared.form.Form.{Form}
 use Rattle.passkey_catalogue.specs.declared.json_values.ValuesFault.{ValuesFault}
 use Rattle.passkey_catalogue.specs.declared.json_values.ValuesFault.TheVariants as values_fault
@@ -17,21 +15,15 @@ use Rattle.passkey_explain.specs.declared.explanation.Explanation.{Explanation}
 use Rattle.passkey_explain.specs.declared.explanation.Explanation.TheVariants.{Refused}
 use Rattle.passkey_rewrite.specs.Definition.{Definition, authenticator, item, message, other}
 use Rattle.passkey_rewrite.specs.declared.fault.RunFault.{RunFault}
-use Rattle.passkey_rewrite.specs.declared.fault.RunFault.TheVariants.{UnknownKind}
 use Rattle.passkey_c.specs.Statuses.{status_of, values_status}
 use Rattle.passkey_c.specs.Writing.{Outputs, Writes, IsUnknown}
 use Rattle.passkey_c.specs.declared.encode.Unencoded.{Unencoded}
 
 -- ---- the values of an input
 
--- why an input has no values: it is refused, or inputs of its kind have none
-abbrev pub HasNoValues : Definition Form → List ℕ → RunFault → Type 0
-HasNoValues d input fault = RefusesValues d input (values_fault.Run fault)
-    ⊎ (RefusesValues d input values_fault.NoValues × (fault ≡ UnknownKind))
-
 abbrev pub WritesValues : Option Kind → List ℕ → Outputs → Outputs → ℕ → Type 0
 WritesValues (Some kind) input old new status =
-    Writes (ShowsValues (definition kind) input) (HasNoValues (definition kind) input) old new status
+    Writes (ShowsValues (definition kind) input) (IsRefusal (definition kind) input) old new status
 WritesValues None input old new status = IsUnknown old new status
 
 -- ---- what values are encoded as
@@ -92,13 +84,13 @@ Blames authenticator bytes told = told ≡ None
 Blames (message t tree) bytes told = (e : Option Explanation) × (Explains t bytes e × (told ≡ blame_told e))
 Blames (other f) bytes told = told ≡ None
 
--- Memory ran out; or the text is no JSON of a data item; or the kind refuses the item, with this fault.
+-- Memory ran out; or the text stands for no input; or the kind refuses the input, with this fault.
 pub data IsUnencoded (d : Definition Form) (text : List ℕ) (status : ℕ) (told : Option (List ℕ)) : Type 0 where
   exhausted : status ≡ 2 → told ≡ None → IsUnencoded d text status told
-  unread : (fault : ValuesFault) → RefusesText d text fault → status ≡ values_status fault → told ≡ said_of fault
+  unread : (fault : ValuesFault) → RefusesText (values_of d) text fault → status ≡ values_status fault → told ≡ said_of fault
       → IsUnencoded d text status told
-  rejected : (front : Item) → ReadsValues d text front → (fault : RunFault) → IsRefusal d (written front) fault
-      → status ≡ status_of fault → (status == 2) ≡ false → Blames d (written front) told
+  rejected : (input : List ℕ) → StandsFor (values_of d) text input → (fault : RunFault) → IsRefusal d input fault
+      → status ≡ status_of fault → (status == 2) ≡ false → Blames d input told
       → IsUnencoded d text status told
 
 -- what the kind's refusal of an encoding comes to: memory ran out, or the fault's status, and what is said of the encoding

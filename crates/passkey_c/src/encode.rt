@@ -11,7 +11,7 @@ ghost use Rattle.passkey_explain.specs.declared.explanation.Explanation.{Explana
 use crate::status::{status_of, values_status};
 use crate::verdict::put_front;
 use crate::write::put;
-use passkey_catalogue::{Form, Kind, ValuesFault, encode, item_from_values, visit};
+use passkey_catalogue::{Form, Kind, ValuesFault, encode, input_from_values, visit};
 use passkey_explain::{Explanation, explain};
 use passkey_kinds::Message;
 use passkey_memory::OutOfMemory;
@@ -37,14 +37,13 @@ fn exhausted() -> Unencoded
     }
 }
 
-/// Returns why a text is no JSON of a data item.
+/// Returns why a text stands for no input.
 fn unread(fault: ValuesFault) -> Unencoded
     ensures { (result.status ≡ values_status fault) × (option_map string_bytes result.text ≡ said_of fault) }
 {
     let status = values_status(&fault);
     let text = match fault {
         ValuesFault::NoItem(_found, text) => Some(text),
-        ValuesFault::NoValues => None,
         ValuesFault::Run(_fault) => None,
     };
     Unencoded { status, text }
@@ -64,7 +63,7 @@ fn blame_of_message<M: Message>(alloc: Global, bytes: &[u8]) -> Result<Option<St
     }
 }
 
-/// What in the encoding of a data item is refused, is said.
+/// What in a message's encoding is refused, is said.
 #[derive(Drop)]
 struct Blaming<'a> {
     alloc: Global,
@@ -95,7 +94,7 @@ impl<'a> Visitor for Blaming<'a> {
     }
 }
 
-/// Returns why the kind refuses the data item with this encoding.
+/// Returns why the kind refuses the input.
 fn rejected(alloc: Global, kind: Kind, bytes: &[u8], fault: RunFault) -> Unencoded
     ensures { IsRejection (definition kind) bytes.now fault result.status (option_map string_bytes result.text) }
 {
@@ -109,25 +108,19 @@ fn rejected(alloc: Global, kind: Kind, bytes: &[u8], fault: RunFault) -> Unencod
     }
 }
 
-/// Returns the encoding of the data item that the JSON is.
+/// Returns the encoding of the input that the JSON stands for.
 fn encode_as(alloc: Global, kind: Kind, json: &[u8]) -> Result<Vec<u8>, Unencoded>
     ensures ok { IfOk result (λ v. EncodesValues (definition kind) json.now v.items) }
     ensures err { IfErr result
         (λ u. IsUnencoded (definition kind) json.now u.status (option_map string_bytes u.text)) }
 {
-    let value = match item_from_values(alloc, kind, json) {
-        Ok(value) => value,
+    let input = match input_from_values(alloc, kind, json) {
+        Ok(input) => input,
         Err(fault) => return Err(unread(fault)),
     };
-    let made = value.to_vec(alloc);
-    drop(value);
-    let bytes = match made {
-        Ok(bytes) => bytes,
-        Err(_) => return Err(exhausted()),
-    };
-    match encode(alloc, kind, bytes.as_slice()) {
+    match encode(alloc, kind, input.as_slice()) {
         Ok((encoding, _len)) => Ok(encoding),
-        Err(fault) => Err(rejected(alloc, kind, bytes.as_slice(), fault)),
+        Err(fault) => Err(rejected(alloc, kind, input.as_slice(), fault)),
     }
 }
 
@@ -171,17 +164,17 @@ fn tell_encoding(
     status
 }
 
-/// Encodes what the JSON is as this kind: writes the encoding of the data item, as puffgrit_rewrite does of
-/// one in any encoding, to the beginning of `out` and its length to `len`. The JSON is what
-/// puffgrit_values writes, changed, or written by hand: members may have their names or numbers, white
-/// space and numbers may be written in any way, and what the table hasn't isn't encoded.
+/// Encodes what the JSON stands for as this kind: writes what puffgrit_rewrite writes of that input to the
+/// beginning of `out`, and its length to `len`. The JSON is what puffgrit_values writes, changed, or written
+/// by hand: members may have their names or numbers, authenticator data and COSE keys their parts or one
+/// string, white space and numbers may be written in any way, and what the table hasn't isn't encoded.
 ///
 /// Returns PUFFGRIT_OK then; PUFFGRIT_TOO_SHORT, with the length that is needed in `len`, if the output has
-/// fewer bytes; PUFFGRIT_OUT_OF_MEMORY if an allocation fails; PUFFGRIT_UNKNOWN_KIND, also for a kind whose
-/// inputs have no such JSON; PUFFGRIT_FAULT_BAD_JSON if the text isn't JSON in UTF-8 of at most 128 levels;
-/// PUFFGRIT_FAULT_NO_ITEM if a value in it is no data item; or the fault with which the kind refuses the
-/// data item, as puffgrit_rewrite. `out` stays as it was but for PUFFGRIT_OK, and so does `len` but for
-/// PUFFGRIT_OK and PUFFGRIT_TOO_SHORT.
+/// fewer bytes; PUFFGRIT_OUT_OF_MEMORY if an allocation fails; PUFFGRIT_UNKNOWN_KIND; PUFFGRIT_FAULT_BAD_JSON
+/// if the text isn't JSON in UTF-8 of at most 128 levels; PUFFGRIT_FAULT_NO_ITEM if a value in it is no data
+/// item, or no byte string where one is wanted; or the fault with which the kind refuses the input, as
+/// puffgrit_rewrite. `out` stays as it was but for PUFFGRIT_OK, and so does `len` but for PUFFGRIT_OK and
+/// PUFFGRIT_TOO_SHORT.
 ///
 /// For PUFFGRIT_FAULT_NO_ITEM, and where a message's table refuses the data item, a text is written to the
 /// beginning of `why`, or as much of it as there is room for, and its whole length to `why_size`: by its

@@ -92,7 +92,6 @@ pub(crate) fn values_status(fault: &ValuesFault) -> u32
     ensures { result ≡ values_status fault.now }
 {
     match fault {
-        ValuesFault::NoValues => 3,
         ValuesFault::NoItem(_, _) => 27,
         ValuesFault::Run(fault) => status_of(*fault),
     }

@@ -1,52 +1,71 @@
-//! Data items and messages as JSON values, from which they are read back, and encoded from them.
-ghost use Rattle.std.specs.Prelude.{◌≡◌, ◌≤◌, true, IfOk, IfErr, Ok, is_ok, string_bytes};
+//! Inputs as JSON values, from which they are read back, and encoded from them.
+ghost use Rattle.std.specs.Prelude.{◌≡◌, ◌≤◌, true, IfOk, IfErr, IsTrue, IsUtf8, Ok, is_ok, string_bytes};
 ghost use Rattle.json.specs.Value.{value_view};
 ghost use Rattle.passkey_attestation.specs.Formats.{format_name};
 ghost use Rattle.passkey_attestation.specs.Statement.{read_statement};
 ghost use Rattle.passkey_catalogue.specs.Catalogue.{definition};
-ghost use Rattle.passkey_catalogue.specs.Rewriting.{IsKeyRefusal, IsStatementRefusal};
-ghost use Rattle.passkey_catalogue.specs.Values.{EncodesValues, IsNoItem, ReadsValues, RefusesEncoding, RefusesJson};
-ghost use Rattle.passkey_catalogue.specs.Values.{RefusesText, RefusesValues, ShowsValues, has_values, json_fault, value_item};
+ghost use Rattle.passkey_catalogue.specs.JsonTexts.{any_json_rewritten};
+ghost use Rattle.passkey_catalogue.specs.Rewriting.{IsKeyRefusal, IsRefusal, IsStatementRefusal, IsStructureRefusal};
+ghost use Rattle.passkey_catalogue.specs.Values.{EncodesValues, IsNoItem, RefusesEncoding, RefusesJson, RefusesText};
+ghost use Rattle.passkey_catalogue.specs.Values.{ShowsData, ShowsItem, ShowsJson, ShowsStructure, ShowsValues};
+ghost use Rattle.passkey_catalogue.specs.Values.{StandsFor, StandsForItem, json_fault, only_string, string_in, values_of};
 ghost use Rattle.passkey_catalogue.specs.declared.json_values.ValuesFault.TheVariants.{Run as Ran};
 ghost use Rattle.passkey_catalogue.specs.declared.form.Form.TheVariants.{Key as a_key, Statement as a_statement};
 ghost use Rattle.passkey_cbor.specs.Depth.{depth};
+ghost use Rattle.passkey_cbor.specs.Item.{Item, byte_string};
 ghost use Rattle.passkey_cbor.specs.LeadingItem.{IsLeadingItem, max_depth};
 ghost use Rattle.passkey_cbor.specs.View.{item_of};
-ghost use Rattle.passkey_cbor_text.specs.declared.values.leaf.StringForm.TheVariants.{Text as as_text};
+ghost use Rattle.passkey_cbor_text.specs.declared.values.leaf.StringForm.TheVariants.{Text as as_text, Bytes as as_bytes};
 ghost use Rattle.passkey_cbor_text.specs.values.Exact.{IsJsonOf};
 ghost use Rattle.passkey_cbor_text.specs.values.JsonItem.{leaf_item};
+ghost use Rattle.passkey_cbor_text.specs.values.NoItem.{Read, Reads, then_with};
+ghost use Rattle.passkey_core.specs.DataReading.{ReadsData};
+ghost use Rattle.passkey_core.specs.DataViews.{data_parts};
 ghost use Rattle.passkey_cose.specs.KeyReading.{read_key};
 ghost use Rattle.passkey_kinds.specs.Record.{read_item};
+ghost use Rattle.passkey_kinds.specs.RecordReading.{shape_of};
+ghost use Rattle.passkey_render.specs.DataParts.{data_item};
+ghost use Rattle.passkey_render.specs.KeyParts.{key_item};
+ghost use Rattle.passkey_render.specs.Typed.{json_item};
 ghost use Rattle.passkey_rewrite.specs.Definition.{item, message, other};
-ghost use Rattle.passkey_rewrite.specs.Rewriting.{IsMessageRefusal};
+ghost use Rattle.passkey_rewrite.specs.RewritesJson.{IsJsonRefusal};
+ghost use Rattle.passkey_rewrite.specs.Rewriting.{IsCborRefusal, IsDataRefusal, IsMessageRefusal};
 ghost use Rattle.passkey_rewrite.specs.declared.fault.RunFault.TheVariants.{OutOfMemory as NoMemory};
+ghost use Rattle.passkey_tpm.specs.CertInfo.{cert_info_in};
+ghost use Rattle.passkey_tpm.specs.PubArea.{pub_area_in};
 
+use crate::any_json_kind::AnyJsonKind;
 use crate::form::Form;
 use crate::kind::Kind;
-use crate::rewriting::encode;
+use crate::rewriting::{encode, rewrite_json};
 use crate::statement::statement_from;
+use crate::structure::{rewrite_cert_info, rewrite_pub_area};
 use crate::visiting::visit;
 use json::{Error, Scratch, Value as Json};
 use passkey_attestation::AttestationFormat;
 use passkey_cbor::{CborError, Value};
-use passkey_cbor_text::values::{ItemFault, NoItem, StringForm, item_from_json, json_from_item};
-use passkey_cose::CoseKey;
+use passkey_cbor_text::values::{
+    ItemFault, ItemReason, NoItem, Reading, StringForm, json_from_item,
+};
+use passkey_core::AuthenticatorData;
+use passkey_cose::{CoseError, CoseKey};
+use passkey_explain_data::data_len;
 use passkey_kinds::{Fault, Message};
 use passkey_memory::OutOfMemory;
-use passkey_render::{json_from_message_item, no_item_text, typed_item_from_json};
+use passkey_render::{
+    DataReading, KeyReading, MessageReading, json_from_data_item, json_from_key_item,
+    json_from_message_item, no_item_text,
+};
 use passkey_rewrite::{RunFault, Visitor};
 use std::alloc::Global;
 
-/// Why an input has no JSON values, or JSON values have no encoding.
+/// Why JSON values have no encoding.
 #[derive(Debug, Drop)]
 pub enum ValuesFault {
-    /// Inputs of the kind have no values so far. Data items, messages, COSE keys and attestation statements
-    /// have some; authenticator data, structures of a TPM and JSON texts have none.
-    NoValues,
     /// What in the JSON is no data item; and where it is and what is wanted there, as a person reads it.
     NoItem(NoItem, String),
-    /// The text isn't JSON (`BadJson`), an allocation failed (`OutOfMemory`), or the kind refuses the input,
-    /// or the data item that the JSON is, as `encode` does.
+    /// The text isn't JSON (`BadJson`), an allocation failed (`OutOfMemory`), or the kind refuses the input
+    /// that the JSON stands for, as `encode` does.
     Run(RunFault),
 }
 
@@ -124,46 +143,128 @@ fn plain_json(alloc: Global, value: Value, len: usize) -> Result<(String, usize)
     Ok((text?, len))
 }
 
-fn item_values(alloc: Global, input: &[u8]) -> Result<(String, usize), ValuesFault>
-    ensures ok { IfOk result (λ made. ShowsValues item input.now (string_bytes made.0) made.1) }
-    ensures err { IfErr result (RefusesValues item input.now) }
+fn item_values(alloc: Global, input: &[u8]) -> Result<(String, usize), RunFault>
+    ensures ok { IfOk result (λ made. ShowsItem item (leaf_item as_text) input.now (string_bytes made.0) made.1) }
+    ensures err { IfErr result (IsCborRefusal input.now) }
 {
-    let (value, len) = match Value::from_slice(alloc, input) {
-        Ok(front) => front,
-        Err(error) => return Err(ValuesFault::Run(RunFault::from(error))),
-    };
+    let (value, len) = Value::from_slice(alloc, input)?;
     Ok(plain_json(alloc, value, len)?)
 }
 
-fn key_values(alloc: Global, input: &[u8]) -> Result<(String, usize), ValuesFault>
-    ensures ok { IfOk result (λ made. ShowsValues (other a_key) input.now (string_bytes made.0) made.1) }
-    ensures err { IfErr result (RefusesValues (other a_key) input.now) }
+fn key_values(alloc: Global, input: &[u8]) -> Result<(String, usize), RunFault>
+    ensures ok { IfOk result (λ made. ShowsItem (other a_key) key_item input.now (string_bytes made.0) made.1) }
+    ensures err { IfErr result (IsKeyRefusal input.now) }
 {
     let (value, len) = key_front(alloc, input)?;
-    Ok(plain_json(alloc, value, len)?)
+    let text = json_from_key_item(alloc, &value);
+    drop(value);
+    Ok((text?, len))
 }
 
 fn statement_values(
     alloc: Global,
     format: AttestationFormat,
     input: &[u8],
-) -> Result<(String, usize), ValuesFault>
-    ensures ok { IfOk result
-        (λ made. ShowsValues (other (a_statement format)) input.now (string_bytes made.0) made.1) }
-    ensures err { IfErr result (RefusesValues (other (a_statement format)) input.now) }
+) -> Result<(String, usize), RunFault>
+    ensures ok { IfOk result (λ made.
+        ShowsItem (other (a_statement format)) (leaf_item as_text) input.now (string_bytes made.0) made.1) }
+    ensures err { IfErr result (IsStatementRefusal format input.now) }
 {
     let (value, len) = statement_front(alloc, format, input)?;
     Ok(plain_json(alloc, value, len)?)
 }
 
-fn message_values<M: Message>(alloc: Global, input: &[u8]) -> Result<(String, usize), ValuesFault>
-    ensures ok { IfOk result (λ made. ShowsValues (message M.fields M.tree) input.now (string_bytes made.0) made.1) }
-    ensures err { IfErr result (RefusesValues (message M.fields M.tree) input.now) }
+fn message_values<M: Message>(alloc: Global, input: &[u8]) -> Result<(String, usize), RunFault>
+    ensures ok { IfOk result (λ made. ShowsItem (message M.fields M.tree) (json_item (shape_of M.fields))
+        input.now (string_bytes made.0) made.1) }
+    ensures err { IfErr result (IsMessageRefusal (read_item M.fields) input.now) }
 {
     let (value, len) = accepted_front::<M>(alloc, input)?;
     let text = json_from_message_item::<M>(alloc, &value);
     drop(value);
     Ok((text?, len))
+}
+
+/// Whether these bytes are authenticator data with the same parts.
+fn has_parts(alloc: Global, data: &AuthenticatorData, bytes: &[u8]) -> Result<bool, OutOfMemory>
+    ensures { IfOk result (λ b. IsTrue b → ReadsData bytes.now (Ok (data_parts data.now))) }
+{
+    match AuthenticatorData::from_slice(alloc, bytes) {
+        Ok(found) => {
+            let is_same = found == *data;
+            drop(found);
+            Ok(is_same)
+        }
+        Err(CoseError::OutOfMemory) => Err(OutOfMemory),
+        Err(_) => Ok(false),
+    }
+}
+
+fn data_values(alloc: Global, input: &[u8]) -> Result<(String, usize), RunFault>
+    ensures ok { IfOk result (λ made. ShowsData input.now (string_bytes made.0) made.1) }
+    ensures err { IfErr result (IsDataRefusal input.now) }
+{
+    let data = match AuthenticatorData::from_slice(alloc, input) {
+        Ok(data) => data,
+        Err(error) => return Err(RunFault::from(error)),
+    };
+    let len = data_len(input);
+    let front = input.get(..len).unwrap_or(input);
+    let is_same = has_parts(alloc, &data, front);
+    drop(data);
+    let shown = if is_same? { front } else { input };
+    let value = Value::Bytes(Vec::from_slice(alloc, shown)?);
+    let text = json_from_data_item(alloc, &value)?;
+    Ok((text, len))
+}
+
+/// Returns the JSON of a byte string, in base64url.
+fn bytes_json(alloc: Global, bytes: &[u8]) -> Result<String, OutOfMemory>
+    ensures { IfOk result (λ text. IsJsonOf (leaf_item as_bytes) (byte_string bytes.now) (string_bytes text)) }
+{
+    let value = Value::Bytes(Vec::from_slice(alloc, bytes)?);
+    json_from_item(alloc, StringForm::Bytes, &value)
+}
+
+fn cert_info_values(alloc: Global, input: &[u8]) -> Result<(String, usize), RunFault>
+    ensures ok { IfOk result (λ made. ShowsStructure cert_info_in input.now (string_bytes made.0) made.1) }
+    ensures err { IfErr result (IsStructureRefusal cert_info_in input.now) }
+{
+    rewrite_cert_info(alloc, input)?;
+    Ok((bytes_json(alloc, input)?, input.len()))
+}
+
+fn pub_area_values(alloc: Global, input: &[u8]) -> Result<(String, usize), RunFault>
+    ensures ok { IfOk result (λ made. ShowsStructure pub_area_in input.now (string_bytes made.0) made.1) }
+    ensures err { IfErr result (IsStructureRefusal pub_area_in input.now) }
+{
+    rewrite_pub_area(alloc, input)?;
+    Ok((bytes_json(alloc, input)?, input.len()))
+}
+
+/// Returns the bytes as a text.
+fn own_text(alloc: Global, input: &[u8]) -> Result<String, OutOfMemory>
+    requires { IsUtf8 input.now }
+    ensures { IfOk result (λ text. string_bytes text ≡ input.now) }
+{
+    match str::from_utf8(input) {
+        Ok(text) => Ok(String::from_str(alloc, text)?),
+        Err(_) => unreachable!(),
+    }
+}
+
+/// Returns the encoding of the JSON text, which is encoded as itself; or else the text.
+fn json_values(alloc: Global, kind: AnyJsonKind, input: &[u8]) -> Result<(String, usize), RunFault>
+    ensures ok { IfOk result
+        (λ made. ShowsJson (any_json_rewritten kind) input.now (string_bytes made.0) made.1) }
+    ensures err { IfErr result (IsJsonRefusal (any_json_rewritten kind) input.now) }
+{
+    let text = rewrite_json(alloc, kind, input)?;
+    match rewrite_json(alloc, kind, text.as_bytes()) {
+        Ok(again) if again.as_str() == text.as_str() => Ok((text, input.len())),
+        Err(RunFault::OutOfMemory) => Err(RunFault::OutOfMemory),
+        _ => Ok((own_text(alloc, input)?, input.len())),
+    }
 }
 
 /// The values of an input are made.
@@ -174,42 +275,45 @@ struct MakingValues<'a> {
 }
 
 impl<'a> Visitor for MakingValues<'a> {
-    type Output = Result<(String, usize), ValuesFault>;
+    type Output = Result<(String, usize), RunFault>;
 
     type Other = Form;
 
     ghost Gives = { λ v d result.
         IfOk result (λ made. ShowsValues d v.input.now (string_bytes made.0) made.1)
-        × IfErr result (RefusesValues d v.input.now) };
+        × IfErr result (IsRefusal d v.input.now) };
 
-    fn visit_item(self) -> Result<(String, usize), ValuesFault> {
+    fn visit_item(self) -> Result<(String, usize), RunFault> {
         item_values(self.alloc, self.input)
     }
 
-    fn visit_data(self) -> Result<(String, usize), ValuesFault> {
-        Err(ValuesFault::NoValues)
+    fn visit_data(self) -> Result<(String, usize), RunFault> {
+        data_values(self.alloc, self.input)
     }
 
-    fn visit_message<M: Message>(self) -> Result<(String, usize), ValuesFault> {
+    fn visit_message<M: Message>(self) -> Result<(String, usize), RunFault> {
         message_values::<M>(self.alloc, self.input)
     }
 
-    fn visit_other(self, what: Form) -> Result<(String, usize), ValuesFault> {
+    fn visit_other(self, what: Form) -> Result<(String, usize), RunFault> {
         match what {
             Form::Key => key_values(self.alloc, self.input),
             Form::Statement(format) => statement_values(self.alloc, format, self.input),
-            _ => Err(ValuesFault::NoValues),
+            Form::CertInfo => cert_info_values(self.alloc, self.input),
+            Form::PubArea => pub_area_values(self.alloc, self.input),
+            Form::Json(kind) => json_values(self.alloc, kind, self.input),
         }
     }
 }
 
-/// Returns the data item that leads the input, of a kind that accepts it, as a JSON text from which
-/// `item_from_values` makes the same item; and its length. Members have their names, and unknown members
-/// stay. Ignores the bytes after it. Returns `NoValues` if inputs of the kind have no values, and else the
-/// errors of `encode`.
-pub fn values(alloc: Global, kind: Kind, input: &[u8]) -> Result<(String, usize), ValuesFault>
+/// Returns the input as a JSON text that stands for it, so that `encode_values` returns of the text what
+/// `encode` returns of the input; and how many bytes of the input that is. A data item is shown by the tables of
+/// the kind, with its unknown members; authenticator data and COSE keys by their parts; a structure of a TPM in
+/// base64url; and a JSON text as `encode` returns it. Bytes after that are ignored. The errors are those of
+/// `encode`.
+pub fn values(alloc: Global, kind: Kind, input: &[u8]) -> Result<(String, usize), RunFault>
     ensures ok { IfOk result (λ made. ShowsValues (definition kind) input.now (string_bytes made.0) made.1) }
-    ensures err { IfErr result (RefusesValues (definition kind) input.now) }
+    ensures err { IfErr result (IsRefusal (definition kind) input.now) }
 {
     visit(kind, MakingValues { alloc, input })
 }
@@ -227,56 +331,6 @@ fn no_item(alloc: Global, json: &Json<'_>, fault: ItemFault) -> ValuesFault
     }
 }
 
-/// Returns the data item that the JSON value is, with nothing known of it.
-fn plain_item(alloc: Global, json: &Json<'_>) -> Result<Value, ValuesFault>
-    ensures ok { IfOk result (λ i. leaf_item as_text (value_view json.now) ≡ Ok (item_of i)) }
-    ensures err { IfErr result (RefusesJson item (value_view json.now)) }
-{
-    match item_from_json(alloc, StringForm::Text, json) {
-        Ok(value) => Ok(value),
-        Err(fault) => Err(no_item(alloc, json, fault)),
-    }
-}
-
-/// The data item that a JSON value is, is made.
-#[derive(Drop)]
-struct ReadingValues<'a> {
-    alloc: Global,
-    json: Json<'a>,
-}
-
-impl<'a> Visitor for ReadingValues<'a> {
-    type Output = Result<Value, ValuesFault>;
-
-    type Other = Form;
-
-    ghost Gives = { λ v d result.
-        IfOk result (λ i. (has_values d ≡ true) × (value_item d (value_view v.json) ≡ Ok (item_of i)))
-        × IfErr result (RefusesJson d (value_view v.json)) };
-
-    fn visit_item(self) -> Result<Value, ValuesFault> {
-        plain_item(self.alloc, &self.json)
-    }
-
-    fn visit_data(self) -> Result<Value, ValuesFault> {
-        Err(ValuesFault::NoValues)
-    }
-
-    fn visit_message<M: Message>(self) -> Result<Value, ValuesFault> {
-        match typed_item_from_json::<M>(self.alloc, &self.json) {
-            Ok(value) => Ok(value),
-            Err(fault) => Err(no_item(self.alloc, &self.json, fault)),
-        }
-    }
-
-    fn visit_other(self, what: Form) -> Result<Value, ValuesFault> {
-        match what {
-            Form::Key | Form::Statement(_) => plain_item(self.alloc, &self.json),
-            _ => Err(ValuesFault::NoValues),
-        }
-    }
-}
-
 /// Returns the fault for a text that isn't read as JSON.
 fn json_fault(error: Error) -> RunFault
     ensures { result ≡ json_fault error }
@@ -287,36 +341,127 @@ fn json_fault(error: Error) -> RunFault
     }
 }
 
-/// Returns the data item that the JSON text is, by the tables of the kind: a data item as
-/// `passkey_cbor_text::values::item_from_json` has it, and a message as
-/// `passkey_render::typed_item_from_json` does. Whether the kind accepts the item isn't said. Returns
-/// `BadJson` if the text isn't JSON in UTF-8 of at most 128 nesting levels; `NoValues` if inputs of the kind
-/// have no values; `NoItem` if a value in it is no data item, with where and why; and `OutOfMemory` if an
-/// allocation fails.
-pub fn item_from_values(alloc: Global, kind: Kind, text: &[u8]) -> Result<Value, ValuesFault>
-    ensures ok { IfOk result (λ i. ReadsValues (definition kind) text.now (item_of i)) }
-    ensures err { IfErr result (RefusesText (definition kind) text.now) }
+/// Returns the data item that the JSON text is, if it is read so.
+fn item_in<R: Reading>(alloc: Global, reading: &R, text: &[u8]) -> Result<Value, ValuesFault>
+    ensures ok { IfOk result (λ i. IsJsonOf (R.means reading.now) (item_of i) text.now) }
+    ensures err { IfErr result (RefusesJson (R.means reading.now) text.now) }
 {
     let mut scratch = Scratch::new(alloc);
     match Json::from_slice(alloc, text, &mut scratch) {
-        Ok(json) => visit(kind, ReadingValues { alloc, json }),
+        Ok(json) => match reading.read(alloc, &json) {
+            Ok(value) => Ok(value),
+            Err(fault) => Err(no_item(alloc, &json, fault)),
+        },
         Err(error) => Err(ValuesFault::Run(json_fault(error))),
     }
 }
 
-/// Returns the encoding of the data item that the JSON text is, of a kind that accepts it, as `encode`
-/// writes it: in CTAP2's canonical form, but for what the message keeps as a data item, without unknown
-/// members. The errors are those of `item_from_values`, and those of `encode` for the item: `MessageRefused`
-/// if the kind rejects it; with `DecodeFailed`, or `Refused(DecodeFailed)` for a data item, if it has more
-/// than 256 levels.
+/// Returns the encoding of the data item that the JSON text is.
+fn item_input<R: Reading>(alloc: Global, reading: &R, text: &[u8]) -> Result<Vec<u8>, ValuesFault>
+    ensures ok { IfOk result (λ v. StandsForItem (R.means reading.now) text.now v.items) }
+    ensures err { IfErr result (RefusesJson (R.means reading.now) text.now) }
+{
+    let value = item_in(alloc, reading, text)?;
+    let bytes = value.to_vec(alloc);
+    drop(value);
+    Ok(bytes?)
+}
+
+/// Returns the byte string that is the JSON text's data item.
+fn string_input<R: Reading>(alloc: Global, reading: &R, text: &[u8]) -> Result<Vec<u8>, ValuesFault>
+    ensures ok { IfOk result (λ v. IsJsonOf (R.means reading.now) (byte_string v.items) text.now) }
+    ensures err { IfErr result (RefusesJson (string_in (R.means reading.now)) text.now) }
+{
+    let mut scratch = Scratch::new(alloc);
+    match Json::from_slice(alloc, text, &mut scratch) {
+        Ok(json) => match string_in(alloc, reading.read(alloc, &json)) {
+            Ok(bytes) => Ok(bytes),
+            Err(fault) => Err(no_item(alloc, &json, fault)),
+        },
+        Err(error) => Err(ValuesFault::Run(json_fault(error))),
+    }
+}
+
+/// Returns the byte string, if the data item is one.
+fn string_in(alloc: Global, item: Result<Value, ItemFault>) -> Result<Vec<u8>, ItemFault>
+    ensures { (o : Read Item) → Reads item_of o item
+        → Reads (λ v. byte_string v.items) (then_with only_string o) result }
+{
+    match item {
+        Ok(Value::Bytes(bytes)) => Ok(bytes),
+        Ok(_) => Err(ItemFault::here(alloc, ItemReason::Bytes)),
+        Err(fault) => Err(fault),
+    }
+}
+
+fn copied(alloc: Global, bytes: &[u8]) -> Result<Vec<u8>, OutOfMemory>
+    ensures { IfOk result (λ v. v.items ≡ bytes.now) }
+{
+    Ok(Vec::from_slice(alloc, bytes)?)
+}
+
+/// The input that a JSON text stands for, is made.
+#[derive(Drop)]
+struct ReadingValues<'a> {
+    alloc: Global,
+    text: &'a [u8],
+}
+
+impl<'a> Visitor for ReadingValues<'a> {
+    type Output = Result<Vec<u8>, ValuesFault>;
+
+    type Other = Form;
+
+    ghost Gives = { λ v d result.
+        IfOk result (λ input. StandsFor (values_of d) v.text.now input.items)
+        × IfErr result (RefusesText (values_of d) v.text.now) };
+
+    fn visit_item(self) -> Result<Vec<u8>, ValuesFault> {
+        item_input(self.alloc, &StringForm::Text, self.text)
+    }
+
+    fn visit_data(self) -> Result<Vec<u8>, ValuesFault> {
+        string_input(self.alloc, &DataReading, self.text)
+    }
+
+    fn visit_message<M: Message>(self) -> Result<Vec<u8>, ValuesFault> {
+        item_input(self.alloc, &MessageReading::<M>::new(), self.text)
+    }
+
+    fn visit_other(self, what: Form) -> Result<Vec<u8>, ValuesFault> {
+        match what {
+            Form::Key => item_input(self.alloc, &KeyReading, self.text),
+            Form::Statement(_) => item_input(self.alloc, &StringForm::Text, self.text),
+            Form::CertInfo | Form::PubArea => {
+                string_input(self.alloc, &StringForm::Bytes, self.text)
+            }
+            Form::Json(_) => Ok(copied(self.alloc, self.text)?),
+        }
+    }
+}
+
+/// Returns the input that the JSON text stands for, as `values` returns it: the encoding of a data item, by
+/// the tables of the kind; authenticator data, of their parts or in base64url; the bytes of a structure of a
+/// TPM; or of a kind of JSON texts the text itself. Whether the kind accepts the input isn't said. Returns
+/// `BadJson` if the text isn't JSON in UTF-8 of at most 128 nesting levels, unless it stands for itself; `NoItem`
+/// if a value in it is no data item, or no byte string where one is wanted, with where and why; and
+/// `OutOfMemory` if an allocation fails.
+pub fn input_from_values(alloc: Global, kind: Kind, text: &[u8]) -> Result<Vec<u8>, ValuesFault>
+    ensures ok { IfOk result (λ input. StandsFor (values_of (definition kind)) text.now input.items) }
+    ensures err { IfErr result (RefusesText (values_of (definition kind)) text.now) }
+{
+    visit(kind, ReadingValues { alloc, text })
+}
+
+/// Returns what `encode` returns for the input that the JSON text stands for: an encoding in CTAP2's canonical
+/// form, but for what a message keeps as a data item, without unknown members. The errors are those of
+/// `input_from_values`, and those of `encode` for the input: `MessageRefused` if the kind rejects it; with
+/// `DecodeFailed`, or `Refused(DecodeFailed)` for a data item, if it has more than 256 levels.
 pub fn encode_values(alloc: Global, kind: Kind, text: &[u8]) -> Result<Vec<u8>, ValuesFault>
     ensures ok { IfOk result (λ encoding. EncodesValues (definition kind) text.now encoding.items) }
     ensures err { IfErr result (RefusesEncoding (definition kind) text.now) }
 {
-    let value = item_from_values(alloc, kind, text)?;
-    let bytes = value.to_vec(alloc);
-    drop(value);
-    let bytes = bytes?;
-    let (encoding, _len) = encode(alloc, kind, bytes.as_slice())?;
+    let input = input_from_values(alloc, kind, text)?;
+    let (encoding, _len) = encode(alloc, kind, input.as_slice())?;
     Ok(encoding)
 }

@@ -7,4 +7,5 @@ pub fn values_are_encoded_as_the_input()
 {
     passkey_cbor::laws::at_most_one_leading_item();
     passkey_cbor::laws::written_is_leading_item();
+    passkey_core::laws::one_reading();
 }

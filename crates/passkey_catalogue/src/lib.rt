@@ -29,7 +29,7 @@ pub use ctap_kind::CtapKind;
 pub use dropping::dropped_json_as;
 pub use explaining::{RefusedJson, explain_json_as};
 pub use form::Form;
-pub use json_values::{ValuesFault, encode_values, item_from_values, values};
+pub use json_values::{ValuesFault, encode_values, input_from_values, values};
 pub use kind::Kind;
 pub use rewriting::{encode, encode_form, rewrite_json};
 pub use visiting::{visit, visit_json};

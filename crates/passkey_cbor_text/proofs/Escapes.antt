@@ -6,7 +6,7 @@ use Rattle.std.specs.Option.{option_and_then}
 use Rattle.std.specs.Result.{result_ok}
 use Rattle.hex.proofs.HexLemmas.{decode_of-encode_lower}
 use Rattle.hex.specs.Hex.{encode_lower}
-use Rattle.json.specs.Json.{document}
+use Rattle.json.specs.Json.{Json, document}
 use Rattle.passkey_cbor.specs.Bytes.{IsBytes}
 use Rattle.passkey_cbor.specs.Depth.{depth}
 use Rattle.passkey_cbor.specs.Item.{Item}
@@ -15,12 +15,10 @@ use Rattle.passkey_cbor.specs.LeadingItem.{IsLeadingItem, HasNoLeadingItem, max_
 use Rattle.passkey_cbor.specs.LeadingItemAt.{IsLeadingItemOf, leading_item_at}
 use Rattle.passkey_cbor.specs.Writable.{IsWritable}
 use Rattle.passkey_cbor.specs.Written.{written}
-use Rattle.passkey_cbor_text.specs.declared.values.leaf.StringForm.{StringForm}
-use Rattle.passkey_cbor_text.specs.values.Exact.{IsEscapeOf, IsJsonOf, escaped}
-use Rattle.passkey_cbor_text.specs.values.JsonItem.{leaf_item}
+use Rattle.passkey_cbor_text.specs.values.Exact.{IsEscapeOf, IsJsonOf, ReadsEscapes, escaped}
 use Rattle.passkey_cbor_text.specs.values.Keys.{alone, bytes_item, encoding_item}
 use Rattle.passkey_memory.specs.declared.OutOfMemory.{OutOfMemory}
-use Rattle.passkey_cbor_text.specs.values.NoItem.{here, or_reason}
+use Rattle.passkey_cbor_text.specs.values.NoItem.{Read, here, or_reason}
 use Rattle.passkey_cbor_text.specs.declared.values.no_item.ItemReason.TheVariants.{Encoding}
 
 nothing_after : (x : Item) (rest : List ℕ) → rest ≡ [] → alone (Some (x, rest)) ≡ Some x
@@ -71,8 +69,8 @@ escape_made found law i bytes (Ok text) is fits writable few parsed = record {
 }
 escape_made found law i bytes (Err e) is fits writable few parsed = tt
 
--- an escape is the data item wherever it stands
-pub escape_means : (f : StringForm) (i : Item) (r : Result (String Global) OutOfMemory)
-    → IfOk r (λ text. IsEscapeOf i (string_bytes text)) → IfOk r (λ text. IsJsonOf (leaf_item f) i (string_bytes text))
-escape_means f i (Ok text) e = record { value = escaped e.digits; parsed = e.parsed; meant = rw e.meant refl }
-escape_means f i (Err e) is = tt
+pub escape_there : (means : Json → Read Item) → ReadsEscapes means → (i : Item) (r : Result (String Global) OutOfMemory)
+    → IfOk r (λ text. IsEscapeOf i (string_bytes text)) → IfOk r (λ text. IsJsonOf means i (string_bytes text))
+escape_there means read i (Ok text) e =
+    record { value = escaped e.digits; parsed = e.parsed; meant = read e.digits i e.meant }
+escape_there means read i (Err e) is = tt

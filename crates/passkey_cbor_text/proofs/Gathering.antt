@@ -11,12 +11,11 @@ use Rattle.passkey_cbor_text.specs.declared.values.no_item.ItemFault.{ItemFault}
 use Rattle.passkey_cbor_text.specs.declared.values.no_item.ItemFault.TheVariants as fault
 use Rattle.passkey_cbor_text.specs.declared.values.no_item.ItemReason.{ItemReason}
 use Rattle.passkey_cbor_text.specs.values.JsonItem.{elements_item, escape_in, leaf_item, member_of, members_item, object_item, placed}
-use Rattle.passkey_cbor_text.specs.values.Algorithms.{Row, named_in}
 use Rattle.passkey_cbor_text.specs.values.Keys.{any_key}
-use Rattle.passkey_iana.specs.declared.algorithm.Algorithm.{Algorithm}
 use Rattle.std.specs.Str.{bytes_eq}
 use Rattle.passkey_cbor_text.specs.values.NoItem.{FailsAs, FailsHere, IsUnder, here, Read, Reads, at, then_with}
 use Rattle.passkey_cbor_text.specs.values.Ordered.{Member}
+use Rattle.passkey_cbor_text.specs.values.Registries.{Row, named_in}
 use Rattle.std.proofs.Common.{Result}
 
 -- what isn't made of a part isn't made of the whole
@@ -90,13 +89,13 @@ not_alone (m ∷ n ∷ ms) h = refl
 
 -- ---- names
 
-pub name_found : (name : List ℕ) (row : Row) (rest more : List Row) (whole : Option Algorithm) → rest ≡ row ∷ more
-    → named_in name rest ≡ whole → bytes_eq row.0 name ≡ true → Some row.1 ≡ whole
-name_found name row rest more whole at so same = rw (at, same) at so
+module _ {T : Type 0} (name : List ℕ) (row : Row T) (rest more : List (Row T)) (whole : Option T) (at : rest ≡ row ∷ more)
+    (so : named_in name rest ≡ whole) where
+  pub name_found : bytes_eq row.0 name ≡ true → Some row.1 ≡ whole
+  name_found same = rw (at, same) at so
 
-pub name_passed : (name : List ℕ) (row : Row) (rest more : List Row) (whole : Option Algorithm) → rest ≡ row ∷ more
-    → named_in name rest ≡ whole → bytes_eq row.0 name ≡ false → named_in name more ≡ whole
-name_passed name row rest more whole at so other = rw (at, other) at so
+  pub name_passed : bytes_eq row.0 name ≡ false → named_in name more ≡ whole
+  name_passed other = rw (at, other) at so
 
 -- ---- UUIDs
 

@@ -1,7 +1,7 @@
-pub mod Algorithms
 pub mod Exact
 pub mod Integers
 pub mod JsonItem
 pub mod Keys
 pub mod NoItem
 pub mod Ordered
+pub mod Registries

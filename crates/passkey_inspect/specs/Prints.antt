@@ -1,5 +1,5 @@
 -- What is printed of bytes.
-use Rattle.std.specs.Prelude.{◌≡◌, ℕ, List, [], ◌∷◌, ◌++◌, if◌then◌else◌, Option, None, Some, ⊤, flat_map}
+use Rattle.std.specs.Prelude.{◌≡◌, ℕ, Bool, true, false, List, [], ◌∷◌, ◌++◌, if◌then◌else◌, Option, None, Some, ⊤, flat_map}
 use Rattle.std.specs.Str.{chars}
 use Rattle.hex.specs.Hex.{encode_lower}
 use Rattle.passkey_cbor.specs.Item.{Item}
@@ -48,12 +48,16 @@ pub record ShowsJson (text : List ℕ) : Type 0 where
   pub description : Described
   pub shown : text ≡ json_text description
 
--- The line is the data item that begins the bytes as JSON, from which it is read back.
+-- The text with each character escaped that a terminal could take as a command.
+abbrev pub visible : List ℕ → List ℕ
+visible text = flat_map visible_text (chars text)
+
+-- The line is the input as JSON, from which it is read back.
 pub record PrintsValues (kind : Kind) (bytes line : List ℕ) : Type 0 where
   pub text : List ℕ
   pub len : ℕ
   pub values : ShowsValues (definition kind) bytes text len
-  pub shown : line ≡ text ++ 10 ∷ []
+  pub shown : line ≡ visible text ++ 10 ∷ []
 
 -- What is printed of the bytes as the kind: exactly the encoding, or the item, or its bytes, in diagnostic notation, in
 -- lines; or its JSON values; or the JSON text of some description. Nothing is said of reports and of dumps.
@@ -88,16 +92,13 @@ RewritesTextAs None = λ input text. ⊥
 abbrev pub RewritesText : Kind → List ℕ → List ℕ → Type 0
 RewritesText k = RewritesTextAs (json_of k)
 
--- The text with each character escaped that a terminal could take as a command.
-abbrev pub visible : List ℕ → List ℕ
-visible text = flat_map visible_text (chars text)
-
--- What is printed of a JSON text as the kind: as JSON the record that it is decoded to, in a line. Nothing is said of reports,
--- and the other options are for bytes.
+-- What is printed of a JSON text as the kind: as JSON the record that it is decoded to, in a line, or its values. Nothing is
+-- said of reports, and the other options are for bytes.
 abbrev pub PrintsRecordAs : Output → Kind → List ℕ → List ℕ → Type 0
 PrintsRecordAs Report kind input line = ⊤
 PrintsRecordAs JsonText kind input line =
     (text : List ℕ) × RewritesText kind input text × (line ≡ visible text ++ 10 ∷ [])
+PrintsRecordAs Values kind input line = PrintsValues kind input line
 PrintsRecordAs _ kind input line = ⊥
 
 -- What is printed of a JSON text: as the kind that was named, or as some kind.
@@ -122,10 +123,15 @@ form_in (Some form) kind input = form
 form_in None (Some kind) input = if is_json kind then Json else form_of input
 form_in None None input = form_of input
 
--- The line is the encoding, in lower-case hexadecimal, of the data item that the JSON text is, as the kind that was named.
-abbrev pub PrintsEncoded : Option Kind → List ℕ → List ℕ → Type 0
-PrintsEncoded (Some kind) input line =
+-- The line is the encoding of what the JSON text stands for, as the kind that was named: of a kind of JSON texts as JSON, and
+-- else in lower-case hexadecimal.
+abbrev pub PrintsEncodedAs : Bool → Kind → List ℕ → List ℕ → Type 0
+PrintsEncodedAs true kind input line = PrintsRecordAs JsonText kind input line
+PrintsEncodedAs false kind input line =
     (encoding : List ℕ) × EncodesValues (definition kind) input encoding × (line ≡ encode_lower encoding ++ 10 ∷ [])
+
+abbrev pub PrintsEncoded : Option Kind → List ℕ → List ℕ → Type 0
+PrintsEncoded (Some kind) input line = PrintsEncodedAs (is_json kind) kind input line
 PrintsEncoded None input line = ⊥
 
 abbrev pub PrintsOutput : Output → Form → Option Kind → List ℕ → List ℕ → Type 0

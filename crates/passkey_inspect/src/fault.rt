@@ -1,6 +1,5 @@
 //! Why a run of the program failed.
 
-use crate::kind::{InspectKind, name_of};
 use crate::options::Output;
 use passkey_memory::OutOfMemory;
 use passkey_rewrite::RunFault;
@@ -26,8 +25,6 @@ pub enum InspectFault {
     BadArguments,
     /// What was to be printed can only be printed of bytes, and the input is JSON; status 2.
     BytesOnly(Output),
-    /// Inputs of this kind have no JSON values; status 2.
-    NoValues(InspectKind),
     /// A name that should be a kind's isn't; the text says so; status 2.
     NoKind(String),
     /// There is no file of the name, and it is no kind's; the text says so; status 4.
@@ -73,10 +70,7 @@ impl InspectFault {
             | InspectFault::RefusedPrinted(_, _)
             | InspectFault::RefusedLines(_)
             | InspectFault::BadBase64 => 1,
-            InspectFault::BadArguments
-            | InspectFault::BytesOnly(_)
-            | InspectFault::NoValues(_)
-            | InspectFault::NoKind(_) => 2,
+            InspectFault::BadArguments | InspectFault::BytesOnly(_) | InspectFault::NoKind(_) => 2,
             InspectFault::NoFile(_) => 4,
         }
     }
@@ -96,10 +90,6 @@ impl fmt::Display for InspectFault {
             InspectFault::BytesOnly(output) => {
                 let option = output.option();
                 write!(f, "{option} is for bytes, and the input is JSON")
-            }
-            InspectFault::NoValues(kind) => {
-                let kind = name_of(*kind);
-                write!(f, "{kind} has no JSON values")
             }
         }
     }

@@ -7,6 +7,7 @@ use crate::fault::InspectFault;
 use crate::inspect::{push_names, push_report, with_line_feed};
 use crate::kind::{FOUND_JSON_KINDS, InspectKind, name_of};
 use crate::options::{Options, Output};
+use crate::values::values_text;
 use passkey_bytes::{Bytes, BytesFault};
 use passkey_catalogue::{RefusedJson, dropped_json_as, explain_json_as, rewrite_json};
 use passkey_cbor_text::diagnose::escape_controls;
@@ -195,7 +196,8 @@ fn visible_record(alloc: Global, text: &str) -> Result<String, RunFault>
     with_line_feed(escape_controls(alloc, text)?)
 }
 
-fn print_as(
+/// Returns what is printed of the input as the kind, where these kinds accept it.
+pub fn print_as(
     alloc: Global,
     output: Output,
     kind: InspectKind,
@@ -211,6 +213,7 @@ fn print_as(
     match output {
         Output::Report => report(alloc, kind, names, input),
         Output::Json => Ok(visible_record(alloc, text.as_str())?),
+        Output::Values => values_text(alloc, kind, input),
         _ => Err(InspectFault::BytesOnly(output)),
     }
 }

@@ -1,12 +1,14 @@
-//! Messages as JSON values, and encoded from them.
+//! Inputs as JSON values, and encoded from them.
 ghost use Rattle.std.specs.Prelude.{◌≡◌, IfOk, string_bytes};
 ghost use Rattle.passkey_inspect.specs.Prints.{PrintsEncoded, PrintsValues};
 
 use crate::fault::InspectFault;
 use crate::inspect::with_line_feed;
 use crate::kind::{InspectKind, name_of};
+use crate::options::Output;
+use crate::records::print_as;
 use crate::refusal::blame_line;
-use passkey_catalogue::{Form, ValuesFault, encode_values, item_from_values, values, visit};
+use passkey_catalogue::{Form, ValuesFault, encode_values, input_from_values, values, visit};
 use passkey_cbor_text::diagnose::escape_controls;
 use passkey_explain::{Explanation, explain};
 use passkey_kinds::Message;
@@ -14,15 +16,13 @@ use passkey_memory::OutOfMemory;
 use passkey_rewrite::{RunFault, Visitor};
 use std::alloc::Global;
 
-/// Returns the data item that leads the bytes as a line of JSON, from which it is read back.
-pub fn values_text(alloc: Global, kind: InspectKind, bytes: &[u8]) -> Result<String, InspectFault>
-    ensures { IfOk result (λ line. PrintsValues kind bytes.now (string_bytes line)) }
+/// Returns the input as a line of JSON, from which it is read back, and of which a terminal takes nothing as a
+/// command.
+pub fn values_text(alloc: Global, kind: InspectKind, input: &[u8]) -> Result<String, InspectFault>
+    ensures { IfOk result (λ line. PrintsValues kind input.now (string_bytes line)) }
 {
-    match values(alloc, kind, bytes) {
-        Ok((text, _len)) => Ok(with_line_feed(text)?),
-        Err(ValuesFault::Run(fault)) => Err(InspectFault::Run(fault)),
-        Err(_) => Err(InspectFault::NoValues(kind)),
-    }
+    let (text, _len) = values(alloc, kind, input)?;
+    Ok(with_line_feed(escape_controls(alloc, text.as_str())?)?)
 }
 
 /// What in a message is refused, is said.
@@ -70,14 +70,11 @@ fn refused_line(
     kind: InspectKind,
     input: &[u8],
 ) -> Result<Option<String>, OutOfMemory> {
-    let value = match item_from_values(alloc, kind, input) {
-        Ok(value) => value,
+    let bytes = match input_from_values(alloc, kind, input) {
+        Ok(bytes) => bytes,
         Err(ValuesFault::Run(RunFault::OutOfMemory)) => return Err(OutOfMemory),
         Err(_) => return Ok(None),
     };
-    let bytes = value.to_vec(alloc);
-    drop(value);
-    let bytes = bytes?;
     visit(
         kind,
         Blaming {
@@ -96,7 +93,6 @@ fn refused(
 ) -> Result<InspectFault, OutOfMemory> {
     let name = name_of(kind);
     match fault {
-        ValuesFault::NoValues => Ok(InspectFault::NoValues(kind)),
         ValuesFault::NoItem(_, text) => {
             let text = escape_controls(alloc, text.as_str())?;
             let text = format!(in alloc; "NoItem\n{text}")?;
@@ -113,8 +109,8 @@ fn refused(
     }
 }
 
-/// Returns the encoding of the data item that the JSON is, as a line of lower-case hexadecimal. The kind
-/// has to be named.
+/// Returns the encoding of what the JSON stands for as a line: of a kind of JSON texts as JSON, and else in
+/// lower-case hexadecimal. The kind has to be named.
 pub fn encode_text(
     alloc: Global,
     kind: Option<InspectKind>,
@@ -125,6 +121,9 @@ pub fn encode_text(
     let Some(kind) = kind else {
         return Err(InspectFault::BadArguments);
     };
+    if kind.is_json() {
+        return print_as(alloc, Output::Json, kind, &[], input);
+    }
     match encode_values(alloc, kind, input) {
         Ok(encoding) => {
             let text = hex::encode(alloc, encoding.as_slice())?;

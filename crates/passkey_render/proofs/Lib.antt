@@ -1,4 +1,5 @@
 pub mod NoItems
 pub mod Opening
 pub mod Texts
+mod Parts
 mod Typing

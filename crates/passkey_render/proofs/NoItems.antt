@@ -5,9 +5,9 @@ use Rattle.json.proofs.Trees.{view-Array, view-Object}
 use Rattle.json.specs.Json.{Json}
 use Rattle.json.specs.Value.{value_view}
 use Rattle.json.specs.declared.value.Value.{Value, Array, Object}
-use Rattle.passkey_render.proofs.Typing.{items_again, members_again}
+use Rattle.passkey_render.proofs.Parts.{items_again, members_again}
 use Rattle.passkey_render.specs.NoItemText.{name_at, value_at}
-use Rattle.passkey_render.specs.Typed.{Named, named_in}
+use Rattle.passkey_render.specs.Parts.{Named, named_in}
 
 element_of : (xs : List (Value Global)) (n : ℕ) (r : Option (Bor (Value Global))) (P : Bor (Value Global) → Type 0)
     → MatchOption r (length xs ≤ n) (λ x. (n < length xs) × P x) → IfSome r (λ x. x.now ≡ get_or xs n x.now)

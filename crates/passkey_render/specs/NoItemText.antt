@@ -5,7 +5,7 @@ use Rattle.json.specs.Json as json
 use Rattle.passkey_cbor_text.specs.declared.values.no_item.ItemReason.{ItemReason}
 use Rattle.passkey_cbor_text.specs.declared.values.no_item.ItemReason.TheVariants as reason
 use Rattle.passkey_cbor_text.specs.values.NoItem.{NoItem}
-use Rattle.passkey_render.specs.Typed.{items_in, members_in}
+use Rattle.passkey_render.specs.Parts.{items_in, members_in}
 
 abbrev pub reason_text : ItemReason → List ℕ
 reason_text reason.Integer = codes "an integer from -18446744073709551616 to 18446744073709551615 is wanted"
@@ -14,6 +14,15 @@ reason_text reason.Encoding = codes "one data item in hexadecimal is wanted"
 reason_text reason.Pairs = codes "an array of arrays of a key and a value is wanted"
 reason_text reason.String = codes "a string is wanted"
 reason_text reason.Repeated = codes "an earlier member has this key"
+reason_text reason.DataParts =
+    codes "rpIdHash, flags and signCount are wanted, attestedCredentialData if AT is set, extensions if ED is, and no others"
+reason_text reason.AttestedParts = codes "aaguid, credentialId and credentialPublicKey are wanted, and no others"
+reason_text reason.Hash = codes "32 bytes in base64url are wanted"
+reason_text reason.Aaguid = codes "16 bytes are wanted, as a UUID or in base64url"
+reason_text reason.CredentialId = codes "at most 65535 bytes in base64url are wanted"
+reason_text reason.Flags = codes "an array of names of flags is wanted, or an integer from 0 to 255"
+reason_text reason.Flag = codes "one of UP, UV, BE, BS, AT and ED is wanted"
+reason_text reason.Counter = codes "an integer from 0 to 4294967295 is wanted"
 
 -- the name of the member at this index of an object
 abbrev pub name_at : ℕ → Json → Option (List ℕ)

@@ -1,17 +1,16 @@
 -- The data item that a JSON value is, by the shape of the type that is wanted of it.
-use Rattle.std.specs.Prelude.{◌≡◌, ℕ, suc, pos, ◌==◌, Bool, true, false, if◌then◌else◌, List, [], ◌∷◌, ◌++◌, map, Option, Some, None, is_some, option_map, Ok}
-use Rattle.std.specs.Borrow.{Bor}
+use Rattle.std.specs.Prelude.{◌≡◌, ℕ, pos, ◌==◌, Bool, true, if◌then◌else◌, List, [], ◌∷◌, ◌++◌, map, Some, Ok}
+use Rattle.std.proofs.Common.{refl}
 use Rattle.json.specs.Json.{Json}
 use Rattle.json.specs.Json as json
-use Rattle.json.specs.Value.{value_view}
-use Rattle.json.specs.declared.value.Value.{Value}
 use Rattle.passkey_bytes.specs.Encoding.{base64url_bytes}
 use Rattle.passkey_cbor.specs.Item.{Item, number, text_string}
 use Rattle.passkey_cbor_text.specs.declared.values.leaf.StringForm.{StringForm}
 use Rattle.passkey_cbor_text.specs.declared.values.leaf.StringForm.TheVariants as string
-use Rattle.passkey_cbor_text.specs.values.JsonItem.{array_of, bytes_item, escape_in, leaf_item, map_of, member_of}
+use Rattle.passkey_cbor_text.specs.values.Exact.{ReadsEscapes, leaf_reads_escapes}
+use Rattle.passkey_cbor_text.specs.values.JsonItem.{array_of, bytes_item, leaf_item, map_of, member_of}
 use Rattle.passkey_cbor_text.specs.values.Keys.{key_item}
-use Rattle.passkey_cbor_text.specs.values.NoItem.{Read, at, read_map, then_with}
+use Rattle.passkey_cbor_text.specs.values.NoItem.{Read, read_map, then_with}
 use Rattle.passkey_cbor_text.specs.values.Ordered.{Member}
 use Rattle.passkey_kinds.specs.Look.{HasForm}
 use Rattle.passkey_kinds.specs.Record.{Naming, row, names}
@@ -21,6 +20,8 @@ use Rattle.passkey_kinds.specs.Shape as shape
 use Rattle.passkey_kinds.specs.declared.look.Form.TheVariants as form
 use Rattle.passkey_kinds.specs.declared.wanted.Wanted.{Wanted}
 use Rattle.passkey_kinds.specs.declared.wanted.Wanted.TheVariants as wanted
+use Rattle.passkey_render.specs.DataParts.{data_item, data_reads_escapes}
+use Rattle.passkey_render.specs.Parts.{Named, elements_of, members_of, of_parts, read_each}
 use Rattle.passkey_render.specs.declared.typed.Keys.{Keys as CodeKeys}
 use Rattle.passkey_render.specs.declared.typed.Keys.TheVariants as code
 
@@ -33,51 +34,18 @@ string_form (wanted.ByteString n) = if n == 16 then string.Aaguid else string.By
 string_form wanted.Algorithm = string.Algorithm
 string_form _ = string.Text
 
+-- authenticator data also by their parts
+abbrev pub wanted_item : Wanted → Json → Read Item
+wanted_item wanted.AuthenticatorData j = data_item j
+wanted_item w j = leaf_item (string_form w) j
+
 -- ---- arrays
-
--- the elements or members before, and these, of which the first has this index
-abbrev pub read_each : {A B : Type 0} → (A → Read B) → List B → ℕ → List A → Read (List B)
-read_each of before n [] = Ok before
-read_each of before n (x ∷ xs) = then_with (λ y. read_each of (before ++ y ∷ []) (suc n) xs) (at n (of x))
-
-abbrev pub items_in : json.Items → List Json
-items_in json.no_items = []
-items_in (json.item j js) = j ∷ items_in js
-
-abbrev pub elements_of : Json → Option (List Json)
-elements_of (json.array js) = Some (items_in js)
-elements_of _ = None
-
--- of the parts, if there are any
-abbrev pub of_parts : {A : Type 0} → Option A → (A → Read Item) → Read Item → Read Item
-of_parts (Some parts) of other = of parts
-of_parts None of other = other
 
 abbrev pub list_item : (Json → Read Item) → Json → Read Item
 list_item of j =
-    of_parts (elements_of j) (λ js. read_map array_of (read_each of [] 0 js)) (leaf_item string.Text j)
+    of_parts (elements_of j) (λ js. read_map array_of (read_each (λ _. of) [] 0 js)) (leaf_item string.Text j)
 
 -- ---- maps and records
-
-abbrev pub Named : Type 0
-Named = List ℕ × Json
-
--- a member of the code's object
-abbrev pub named_in : {A : Type 0} → Bor (List ℕ) × Value A → Named
-named_in m = (m.0.now, value_view m.1)
-
-abbrev pub members_in : json.Members → List Named
-members_in json.no_members = []
-members_in (json.member k j ms) = (let m : Named = (k, j) in m) ∷ members_in ms
-
-abbrev pub unless : {A : Type 0} → Bool → A → Option A
-unless true x = None
-unless false x = Some x
-
--- the members of an object that is no escape
-abbrev pub members_of : Json → Option (List Named)
-members_of (json.object ms) = unless (is_some (escape_in ms)) (members_in ms)
-members_of _ = None
 
 -- The keys that a map may have: byte strings; or those of a record, whose members have numbers or not.
 pub data Keys : Type 0 where
@@ -112,14 +80,14 @@ member_item ks of m =
     then_with (λ key. member_of (Ok key) (value_item of (named_by ks key) m.1)) (key_item (plain_key ks) m.0)
 
 abbrev pub table_item : Keys → (ℕ → Json → Read Item) → Json → Read Item
-table_item ks of j = of_parts (members_of j) (λ ms. read_map map_of (read_each (member_item ks of) [] 0 ms))
+table_item ks of j = of_parts (members_of j) (λ ms. read_map map_of (read_each (λ _. member_item ks of) [] 0 ms))
     (leaf_item string.Text j)
 
 -- ---- by the shape
 
 abbrev mutual
   pub json_item : Shape → Json → Read Item
-  json_item (shape.leaf w) j = leaf_item (string_form w) j
+  json_item (shape.leaf w) j = wanted_item w j
   json_item (shape.list accepts s) j = list_item (json_item s) j
   json_item (shape.map accepts s) j = table_item byte_strings (λ n. json_item s) j
   json_item (record_of is_numbered rs) j = table_item (rows is_numbered (entries_in rs)) (row_item rs) j
@@ -145,3 +113,16 @@ pub record IsRowAt (way : List ℕ) (root : Tested) (of : Json → Read Item) : 
 -- The way leads to a map or a record with these keys, whose values are read so.
 pub record IsTableAt (way : List ℕ) (root : Tested) (ks : Keys) (of : ℕ → Json → Read Item) : Type 0 where
   pub value_at : (label : Item) (n : ℕ) → named_by ks label ≡ row n → IsRowAt (way ++ n ∷ []) root (of n)
+
+-- ---- an escape is the data item wherever it stands
+
+wanted_reads_escapes : (w : Wanted) → ReadsEscapes (wanted_item w)
+wanted_reads_escapes wanted.AuthenticatorData = data_reads_escapes
+wanted_reads_escapes w = leaf_reads_escapes (string_form w)
+
+pub type_reads_escapes : (s : Shape) → ReadsEscapes (json_item s)
+type_reads_escapes (shape.leaf w) digits i e = wanted_reads_escapes w digits i e
+type_reads_escapes (shape.list a x) digits i e = rw e refl
+type_reads_escapes (shape.map a x) digits i e = rw e refl
+type_reads_escapes (record_of b rs) digits i e = rw e refl
+type_reads_escapes (shape.tolerant a x) digits i e = type_reads_escapes x digits i e

@@ -21,6 +21,18 @@ fn reason_text(reason: ItemReason) -> &'static str
         ItemReason::Pairs => "an array of arrays of a key and a value is wanted",
         ItemReason::String => "a string is wanted",
         ItemReason::Repeated => "an earlier member has this key",
+        ItemReason::DataParts => {
+            "rpIdHash, flags and signCount are wanted, attestedCredentialData if AT is set, extensions if ED is, and no others"
+        }
+        ItemReason::AttestedParts => {
+            "aaguid, credentialId and credentialPublicKey are wanted, and no others"
+        }
+        ItemReason::Hash => "32 bytes in base64url are wanted",
+        ItemReason::Aaguid => "16 bytes are wanted, as a UUID or in base64url",
+        ItemReason::CredentialId => "at most 65535 bytes in base64url are wanted",
+        ItemReason::Flags => "an array of names of flags is wanted, or an integer from 0 to 255",
+        ItemReason::Flag => "one of UP, UV, BE, BS, AT and ED is wanted",
+        ItemReason::Counter => "an integer from 0 to 4294967295 is wanted",
     }
 }
 

@@ -13,9 +13,11 @@ ghost use Rattle.passkey_kinds.specs.Record.{names, naming_of};
 ghost use Rattle.passkey_kinds.specs.RecordReading.{entry_of};
 ghost use Rattle.passkey_kinds.specs.Shape.{Tested, reached};
 ghost use Rattle.passkey_kinds.specs.declared.look.Form.TheVariants.{List as a_list};
-ghost use Rattle.passkey_render.specs.Typed.{HasKeys, IsTableAt, Keys as SpecKeys, json_item, keys_of, member_item, named_by, named_in};
-ghost use Rattle.passkey_render.specs.Typed.{named_key, plain_key, read_each, string_form, value_item};
+ghost use Rattle.passkey_render.specs.Parts.{named_in, read_each};
+ghost use Rattle.passkey_render.specs.Typed.{HasKeys, IsTableAt, Keys as SpecKeys, json_item, keys_of, member_item, named_by};
+ghost use Rattle.passkey_render.specs.Typed.{named_key, plain_key, string_form, value_item, wanted_item};
 
+use crate::data_parts::data_item_from_json;
 use json::Value as Json;
 use passkey_cbor::{Integer, Value};
 use passkey_cbor_text::values::{
@@ -52,6 +54,16 @@ pub(crate) fn string_form(wanted: Wanted) -> StringForm
         }
         Wanted::Algorithm => StringForm::Algorithm,
         _ => StringForm::Text,
+    }
+}
+
+/// Returns the data item where this is wanted: authenticator data also by their parts.
+fn wanted_item(alloc: Global, wanted: Wanted, json: &Json<'_>) -> Result<Value, ItemFault>
+    ensures { Reads item_of (wanted_item wanted (value_view json.now)) result }
+{
+    match wanted {
+        Wanted::AuthenticatorData => data_item_from_json(alloc, json),
+        _ => item_from_json(alloc, string_form(wanted), json),
     }
 }
 
@@ -124,7 +136,7 @@ fn elements<M: FromCbor>(
     all: &[Json<'_>],
 ) -> Result<Vec<Value>, ItemFault>
     ensures { (t : Tested) → reached way.now (tested M.typed) ≡ Some t
-        → Reads (λ v. map item_of v.items) (read_each (json_item t.shape) [] 0 (map value_view all.now)) result }
+        → Reads (λ v. map item_of v.items) (read_each (λ _. json_item t.shape) [] 0 (map value_view all.now)) result }
 {
     let mut found = Vec::new(alloc);
     for (index, json) in all.iter().enumerate() {
@@ -162,7 +174,7 @@ fn array_of(elements: Result<Vec<Value>, ItemFault>) -> Result<Value, ItemFault>
 }
 
 /// Returns the map of these members, if they are given.
-fn map_of(members: Result<Vec<(Value, Value)>, ItemFault>) -> Result<Value, ItemFault>
+pub(crate) fn map_of(members: Result<Vec<(Value, Value)>, ItemFault>) -> Result<Value, ItemFault>
     ensures { (o : Read (ListOf Member)) → Reads (λ v. map pair_of v.items) o members
         → Reads item_of (read_map map_of o) result }
 {
@@ -219,7 +231,7 @@ fn members<M: FromCbor>(
 ) -> Result<Vec<(Value, Value)>, ItemFault>
     ensures { (of : ℕ → SpecJson → Read Item) → IsTableAt way.now (tested M.typed) (keys_of keys.now) of
         → Reads (λ v. map pair_of v.items)
-        (read_each (member_item (keys_of keys.now) of) [] 0 (map named_in all.now)) result }
+        (read_each (λ _. member_item (keys_of keys.now) of) [] 0 (map named_in all.now)) result }
 {
     let mut found = Vec::new(alloc);
     for (index, (name, json)) in all.iter().enumerate() {
@@ -259,7 +271,7 @@ fn item<M: FromCbor>(alloc: Global, way: &[u8], json: &Json<'_>) -> Result<Value
         → Reads item_of (json_item t.shape (value_view json.now)) result }
 {
     match M::look(alloc, way, &Value::Null)?.form {
-        Form::Leaf(wanted) => item_from_json(alloc, string_form(wanted), json),
+        Form::Leaf(wanted) => wanted_item(alloc, wanted, json),
         Form::List => list::<M>(alloc, way, json),
         Form::Map => table::<M>(alloc, way, &Keys::ByteStrings, json),
         Form::Record(is_numbered, rows) => {

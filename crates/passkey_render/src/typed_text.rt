@@ -1,22 +1,24 @@
 //! Messages as JSON texts, from which they are read back by their tables.
-ghost use Rattle.std.specs.Prelude.{◌≤◌, IfOk, IsTrue, string_bytes};
+ghost use Rattle.std.specs.Prelude.{◌≤◌, IfOk, string_bytes};
 ghost use Rattle.passkey_cbor.specs.Depth.{depth};
 ghost use Rattle.passkey_cbor.specs.LeadingItem.{max_depth};
 ghost use Rattle.passkey_cbor.specs.View.{item_of};
 ghost use Rattle.passkey_cbor_text.specs.values.Exact.{IsJsonOf};
 ghost use Rattle.passkey_kinds.specs.RecordReading.{shape_of};
-ghost use Rattle.passkey_render.specs.Typed.{json_item};
+ghost use Rattle.passkey_render.specs.Typed.{json_item, type_reads_escapes};
 
+use crate::data_text::friendly_data;
 use crate::typed::{string_form, typed_item_from_json};
-use json::{Error, Scratch, Value as Json};
+use json::Value as Json;
 use passkey_bytes::encoding::base64url;
 use passkey_cbor::Value;
 use passkey_cbor_text::diagnose::quote;
-use passkey_cbor_text::values::{ItemFault, escape_of_item, friendly_json, key_name};
+use passkey_cbor_text::values::{ItemFault, Reading, exact_json, friendly_json, key_name};
 use passkey_explain::{Description, FieldName, describe};
-use passkey_kinds::Message;
+use passkey_kinds::{Message, Wanted};
 use passkey_memory::OutOfMemory;
 use std::alloc::Global;
+use std::marker::PhantomData;
 
 /// Returns the name of a member of a map whose keys are byte strings.
 fn bytes_name(alloc: Global, key: &Value) -> Result<String, OutOfMemory> {
@@ -34,12 +36,24 @@ fn field_name(alloc: Global, name: &FieldName) -> Result<String, OutOfMemory> {
 }
 
 /// Appends a comma, unless the member is the first, its name and a colon.
-fn push_name(out: &mut String, alloc: Global, index: usize, name: &str) -> Result<(), OutOfMemory> {
+pub(crate) fn push_name(
+    out: &mut String,
+    alloc: Global,
+    index: usize,
+    name: &str,
+) -> Result<(), OutOfMemory> {
     if index > 0 {
         out.push(',')?;
     }
     out.push_str(quote(alloc, name)?.as_str())?;
     Ok(out.push(':')?)
+}
+
+fn leaf_text(alloc: Global, wanted: Wanted, value: &Value) -> Result<String, OutOfMemory> {
+    match wanted {
+        Wanted::AuthenticatorData => friendly_data(alloc, value),
+        _ => friendly_json(alloc, string_form(wanted), value),
+    }
 }
 
 #[cycle(text)]
@@ -76,8 +90,7 @@ fn push_fields(
 fn push(out: &mut String, alloc: Global, description: &Description) -> Result<(), OutOfMemory> {
     match description {
         Description::Leaf(wanted, value) => {
-            let text = friendly_json(alloc, string_form(*wanted), value)?;
-            Ok(out.push_str(text.as_str())?)
+            Ok(out.push_str(leaf_text(alloc, *wanted, value)?.as_str())?)
         }
         Description::List(elements) => push_elements(out, alloc, elements),
         Description::Map(entries) => {
@@ -102,21 +115,28 @@ fn friendly_message<M: Message>(alloc: Global, value: &Value) -> Result<String, 
     Ok(out)
 }
 
-/// Whether the text is JSON that is the data item, by the message's tables.
-fn is_json_of<M: Message>(alloc: Global, text: &str, value: &Value) -> Result<bool, OutOfMemory>
-    ensures { IfOk result
-        (λ b. IsTrue b → IsJsonOf (json_item (shape_of M.Record.fields)) (item_of value.now) text.now) }
-{
-    let mut scratch = Scratch::new(alloc);
-    let json = match Json::parse(alloc, text, &mut scratch) {
-        Ok(json) => json,
-        Err(Error::OutOfMemory) => return Err(OutOfMemory),
-        Err(_) => return Ok(false),
-    };
-    match typed_item_from_json::<M>(alloc, &json) {
-        Ok(found) => Ok(found == *value),
-        Err(ItemFault::NoItem(_)) => Ok(false),
-        Err(ItemFault::OutOfMemory) => Err(OutOfMemory),
+/// The reading of a message by its tables, as `typed_item_from_json`.
+#[derive(Drop)]
+pub struct MessageReading<M> {
+    message: PhantomData<M>,
+}
+
+impl<M> MessageReading<M> {
+    /// Returns the reading of the message.
+    pub fn new() -> MessageReading<M> {
+        MessageReading {
+            message: PhantomData,
+        }
+    }
+}
+
+impl<M: Message> Reading for MessageReading<M> {
+    ghost means = { λ _. json_item (shape_of M.Record.fields) };
+
+    ghost reads_escapes = { λ _. type_reads_escapes (shape_of M.Record.fields) };
+
+    fn read(&self, alloc: Global, json: &Json<'_>) -> Result<Value, ItemFault> {
+        typed_item_from_json::<M>(alloc, json)
     }
 }
 
@@ -131,9 +151,7 @@ pub fn json_from_message_item<M: Message>(
     ensures { IfOk result
         (λ text. IsJsonOf (json_item (shape_of M.Record.fields)) (item_of value.now) (string_bytes text)) }
 {
+    let reading = MessageReading::<M>::new();
     let text = friendly_message::<M>(alloc, value)?;
-    if is_json_of::<M>(alloc, text.as_str(), value)? {
-        return Ok(text);
-    }
-    escape_of_item(alloc, value)
+    exact_json(alloc, &reading, text, value)
 }

@@ -1,5 +1,5 @@
 -- The data item that a JSON value is where no table divides it.
-use Rattle.std.specs.Prelude.{◌≡◌, ℕ, suc, if◌then◌else◌, List, [], ◌∷◌, ◌++◌, Option, Some, None, option_map, Ok, Err, codes}
+use Rattle.std.specs.Prelude.{◌≡◌, ℕ, ℤ, suc, if◌then◌else◌, List, [], ◌∷◌, ◌++◌, Option, Some, None, option_map, Ok, Err, codes}
 use Rattle.std.specs.Option.{option_and_then, option_or}
 use Rattle.std.specs.Str.{bytes_eq}
 use Rattle.json.specs.Find.{as_str}
@@ -14,12 +14,11 @@ use Rattle.passkey_cbor_text.specs.declared.values.escape.Escape.TheVariants as 
 use Rattle.passkey_cbor_text.specs.declared.values.leaf.StringForm.{StringForm}
 use Rattle.passkey_cbor_text.specs.declared.values.leaf.StringForm.TheVariants as form
 use Rattle.passkey_cbor_text.specs.declared.values.no_item.ItemReason.TheVariants as reason
-use Rattle.passkey_cbor_text.specs.values.Algorithms.{algorithm_named}
 use Rattle.passkey_cbor_text.specs.values.Keys.{any_key, encoding_item, number_item}
 use Rattle.passkey_cbor_text.specs.values.NoItem.{Read, at, here, or_reason, read_map, then_with}
 use Rattle.passkey_cbor_text.specs.values.Ordered.{Member, with_member}
+use Rattle.passkey_cbor_text.specs.values.Registries.{algorithm_named, curves, key_types, named_in}
 use Rattle.passkey_iana.specs.Iana.{algorithm_number}
-use Rattle.passkey_iana.specs.declared.algorithm.Algorithm.{Algorithm}
 use Rattle.uuid.specs.Text.{parsed}
 
 -- ---- strings
@@ -27,20 +26,23 @@ use Rattle.uuid.specs.Text.{parsed}
 abbrev pub bytes_item : Option (List ℕ) → Read Item
 bytes_item bytes = or_reason reason.Bytes (option_map item.byte_string bytes)
 
-abbrev pub by_name : Option Algorithm → List ℕ → Item
-by_name (Some a) text = item.number (algorithm_number a)
-by_name None text = item.text_string text
+-- the number that a name stands for, and else the text
+abbrev pub number_or_text : Option ℤ → List ℕ → Item
+number_or_text (Some z) text = item.number z
+number_or_text None text = item.text_string text
 
--- the algorithm with this name, by its number, and else the text
 abbrev pub algorithm_or_text : List ℕ → Item
-algorithm_or_text text = by_name (algorithm_named text) text
+algorithm_or_text text = number_or_text (option_map algorithm_number (algorithm_named text)) text
 
--- a text; bytes in base64url (RFC 4648, section 5); those of an AAGUID also as a UUID (RFC 9562, section 4); or an algorithm
+-- a text; bytes in base64url (RFC 4648, section 5); those of an AAGUID also as a UUID (RFC 9562, section 4); or a name in a
+-- registry
 abbrev pub string_item : StringForm → List ℕ → Read Item
 string_item form.Text text = Ok (item.text_string text)
 string_item form.Bytes text = bytes_item (base64url_bytes text)
 string_item form.Aaguid text = bytes_item (option_or (parsed text) (base64url_bytes text))
 string_item form.Algorithm text = Ok (algorithm_or_text text)
+string_item form.KeyType text = Ok (number_or_text (named_in text key_types) text)
+string_item form.Curve text = Ok (number_or_text (named_in text curves) text)
 
 -- ---- escapes: objects with one member, by its name
 

@@ -7,11 +7,11 @@ ghost use Rattle.passkey_cbor.specs.View.{item_of, pair_of};
 ghost use Rattle.passkey_cbor_text.specs.values.JsonItem.{bytes_item, escape_in, escape_named, escape_string, escape_text, map_in, pair_in, pairs_from};
 ghost use Rattle.passkey_cbor_text.specs.values.Keys.{encoding_item, number_item};
 ghost use Rattle.passkey_cbor_text.specs.values.Keys as encoded;
-ghost use Rattle.passkey_cbor_text.specs.values.NoItem.{FailsHere, Reads, or_reason};
+ghost use Rattle.passkey_cbor_text.specs.values.NoItem.{Reads, or_reason};
 ghost use Rattle.passkey_cbor_text.specs.declared.values.no_item.ItemReason.TheVariants as reason;
 
 use crate::values::integer::integer_in;
-use crate::values::{ItemFault, ItemReason, NoItem};
+use crate::values::{ItemFault, ItemReason};
 use hex::FromHexError;
 use json::Value as Json;
 use passkey_bytes::encoding::try_from_base64url;
@@ -70,16 +70,6 @@ pub fn is_escape(members: &[(&str, Json<'_>)]) -> bool
     escape_in(members).is_some()
 }
 
-/// Returns that a value is no data item, for this reason.
-pub(crate) fn refused(alloc: Global, reason: ItemReason) -> ItemFault
-    ensures { FailsHere reason result }
-{
-    ItemFault::NoItem(NoItem {
-        path: Vec::new(alloc),
-        reason,
-    })
-}
-
 /// Decodes the data item that all these bytes encode.
 #[tactic(auto, using(crate::proofs::Escapes::whole_item, crate::proofs::Escapes::item_and_more, crate::proofs::Escapes::no_item))]
 fn value_of_encoding(alloc: Global, bytes: &[u8]) -> Result<Value, ItemFault>
@@ -90,12 +80,12 @@ fn value_of_encoding(alloc: Global, bytes: &[u8]) -> Result<Value, ItemFault>
     match Value::from_slice(alloc, bytes) {
         Ok((value, len)) => {
             if len < bytes.len() {
-                return Err(refused(alloc, ItemReason::Encoding));
+                return Err(ItemFault::here(alloc, ItemReason::Encoding));
             }
             Ok(value)
         }
         Err(CborError::OutOfMemory) => Err(ItemFault::OutOfMemory),
-        Err(_) => Err(refused(alloc, ItemReason::Encoding)),
+        Err(_) => Err(ItemFault::here(alloc, ItemReason::Encoding)),
     }
 }
 
@@ -107,7 +97,7 @@ pub fn value_of_hex(alloc: Global, digits: &[u8]) -> Result<Value, ItemFault>
     match hex::decode(alloc, digits) {
         Ok(bytes) => value_of_encoding(alloc, bytes.as_slice()),
         Err(FromHexError::OutOfMemory) => Err(ItemFault::OutOfMemory),
-        Err(_) => Err(refused(alloc, ItemReason::Encoding)),
+        Err(_) => Err(ItemFault::here(alloc, ItemReason::Encoding)),
     }
 }
 
@@ -118,7 +108,7 @@ pub fn value_of_base64url(alloc: Global, text: &str) -> Result<Value, ItemFault>
 {
     match try_from_base64url(alloc, text)? {
         Some(bytes) => Ok(Value::Bytes(bytes)),
-        None => Err(refused(alloc, ItemReason::Bytes)),
+        None => Err(ItemFault::here(alloc, ItemReason::Bytes)),
     }
 }
 
@@ -129,7 +119,7 @@ pub fn value_of_number(alloc: Global, text: &[u8]) -> Result<Value, ItemFault>
 {
     match integer_in(text) {
         Some(number) => Ok(Value::Integer(number)),
-        None => Err(refused(alloc, ItemReason::Integer)),
+        None => Err(ItemFault::here(alloc, ItemReason::Integer)),
     }
 }
 
@@ -147,7 +137,7 @@ fn escape_text(alloc: Global, escape: Escape, text: &str) -> Result<Value, ItemF
         Escape::Bytes => value_of_base64url(alloc, text),
         Escape::Text => Ok(value_of_text(alloc, text)?),
         Escape::Integer => value_of_number(alloc, text.as_bytes()),
-        Escape::Map => Err(refused(alloc, ItemReason::Pairs)),
+        Escape::Map => Err(ItemFault::here(alloc, ItemReason::Pairs)),
         Escape::Cbor => value_of_hex(alloc, text.as_bytes()),
     }
 }
@@ -162,7 +152,7 @@ pub(crate) fn escape_string(
 {
     match text {
         Some(text) => escape_text(alloc, escape, text),
-        None => Err(refused(alloc, ItemReason::String)),
+        None => Err(ItemFault::here(alloc, ItemReason::String)),
     }
 }
 
@@ -201,10 +191,10 @@ pub(crate) fn map_in(alloc: Global, value: &Value) -> Result<Value, ItemFault>
     ensures { Reads item_of (or_reason reason.Pairs (map_in (item_of value.now))) result }
 {
     let Value::Array(pairs) = value else {
-        return Err(refused(alloc, ItemReason::Pairs));
+        return Err(ItemFault::here(alloc, ItemReason::Pairs));
     };
     match pairs_in(alloc, pairs)? {
         Some(members) => Ok(Value::Map(members)),
-        None => Err(refused(alloc, ItemReason::Pairs)),
+        None => Err(ItemFault::here(alloc, ItemReason::Pairs)),
     }
 }

@@ -7,19 +7,18 @@ ghost use Rattle.passkey_bytes.specs.Encoding.{base64url_bytes};
 ghost use Rattle.passkey_cbor.specs.View.{item_of, pair_of};
 ghost use Rattle.passkey_cbor_text.specs.declared.values.leaf.StringForm.TheVariants.{Text as as_text};
 ghost use Rattle.passkey_cbor_text.specs.values.JsonItem.{algorithm_or_text, bytes_item, elements_item, escape_item, first_item};
-ghost use Rattle.passkey_cbor_text.specs.values.JsonItem.{leaf_item, member_of, members_item, object_item, placed, string_item};
+ghost use Rattle.passkey_cbor_text.specs.values.JsonItem.{leaf_item, member_of, members_item, number_or_text, object_item, placed, string_item};
 ghost use Rattle.passkey_cbor_text.specs.values.Keys.{any_key};
 ghost use Rattle.passkey_cbor_text.specs.values.NoItem.{Read, Reads};
 ghost use Rattle.passkey_cbor_text.specs.values.Ordered.{Member};
 ghost use Rattle.uuid.specs.Text.{parsed};
 
-use crate::values::algorithms::algorithm_named;
 use crate::values::escape::{
-    Escape, escape_in, escape_string, map_in, refused, value_of_base64url, value_of_number,
-    value_of_text,
+    Escape, escape_in, escape_string, map_in, value_of_base64url, value_of_number, value_of_text,
 };
 use crate::values::keys::any_key;
 use crate::values::order::put_in_order;
+use crate::values::registries::{algorithm_named, curve_named, key_type_named};
 use crate::values::{ItemFault, ItemReason};
 use json::Value as Json;
 use passkey_cbor::{Integer, Value};
@@ -39,6 +38,10 @@ pub enum StringForm {
     Aaguid,
     /// The name of a COSE algorithm, which stands for its number, or a text string.
     Algorithm,
+    /// The name of a COSE key type, which stands for its number, or a text string.
+    KeyType,
+    /// The name of a COSE elliptic curve, which stands for its number, or a text string.
+    Curve,
 }
 
 fn aaguid(alloc: Global, text: &str) -> Result<Value, ItemFault>
@@ -50,14 +53,21 @@ fn aaguid(alloc: Global, text: &str) -> Result<Value, ItemFault>
     }
 }
 
+/// Returns the number that the text stands for, if it is given, and else the text.
+fn number_or_text(alloc: Global, number: Option<i64>, text: &str) -> Result<Value, OutOfMemory>
+    ensures { IfOk result (λ v. item_of v ≡ number_or_text number text.now) }
+{
+    match number {
+        Some(number) => Ok(Value::Integer(Integer::new(i128::from(number)).unwrap())),
+        None => value_of_text(alloc, text),
+    }
+}
+
 fn algorithm(alloc: Global, text: &str) -> Result<Value, OutOfMemory>
     ensures { IfOk result (λ v. item_of v ≡ algorithm_or_text text.now) }
 {
     match algorithm_named(text) {
-        Some(algorithm) => {
-            let number = Integer::new(i128::from(algorithm.to_i64())).unwrap();
-            Ok(Value::Integer(number))
-        }
+        Some(algorithm) => number_or_text(alloc, Some(algorithm.to_i64()), text),
         None => value_of_text(alloc, text),
     }
 }
@@ -70,6 +80,8 @@ fn string(alloc: Global, form: StringForm, text: &str) -> Result<Value, ItemFaul
         StringForm::Bytes => value_of_base64url(alloc, text),
         StringForm::Aaguid => aaguid(alloc, text),
         StringForm::Algorithm => Ok(algorithm(alloc, text)?),
+        StringForm::KeyType => Ok(number_or_text(alloc, key_type_named(text), text)?),
+        StringForm::Curve => Ok(number_or_text(alloc, curve_named(text), text)?),
     }
 }
 
@@ -99,7 +111,7 @@ fn put(
     if put_in_order(alloc, found, member?)? {
         Ok(())
     } else {
-        Err(refused(alloc, ItemReason::Repeated))
+        Err(ItemFault::here(alloc, ItemReason::Repeated))
     }
 }
 
@@ -143,7 +155,7 @@ fn first(alloc: Global, escape: Escape, all: &[(&str, Json<'_>)]) -> Result<Valu
     ensures { Reads item_of (first_item escape (members_view all.now)) result }
 {
     if all.is_empty() {
-        return Err(refused(alloc, ItemReason::String));
+        return Err(ItemFault::here(alloc, ItemReason::String));
     }
     match escaped(alloc, escape, &all[0].1) {
         Ok(value) => Ok(value),

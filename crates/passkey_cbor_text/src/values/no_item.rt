@@ -1,9 +1,10 @@
 //! Why a JSON value is no data item, and where in it.
 ghost use Rattle.std.specs.Prelude.{◌≡◌};
-ghost use Rattle.passkey_cbor_text.specs.values.NoItem.{IsUnder};
+ghost use Rattle.passkey_cbor_text.specs.values.NoItem.{FailsHere, IsUnder};
 ghost use Rattle.passkey_cbor_text.specs.declared.values.no_item.ItemFault.TheVariants.{OutOfMemory as NoMemory};
 
 use passkey_memory::MemoryError;
+use std::alloc::Global;
 
 /// Why a JSON value is no data item.
 #[derive(Clone, Copy, Debug, PartialEq, Eq)]
@@ -20,6 +21,24 @@ pub enum ItemReason {
     String,
     /// Another key is wanted, since an earlier member has this one.
     Repeated,
+    /// The members of authenticator data are wanted: `rpIdHash`, `flags` and `signCount`, and no others but
+    /// `attestedCredentialData` and `extensions`.
+    DataParts,
+    /// The members of attested credential data are wanted: `aaguid`, `credentialId` and
+    /// `credentialPublicKey`, and no others.
+    AttestedParts,
+    /// 32 bytes in base64url are wanted.
+    Hash,
+    /// 16 bytes are wanted, as a UUID or in base64url.
+    Aaguid,
+    /// At most 65535 bytes in base64url are wanted.
+    CredentialId,
+    /// An array of names of flags is wanted, or an integer from 0 to 255.
+    Flags,
+    /// The name of a flag of authenticator data is wanted.
+    Flag,
+    /// An integer from 0 to 2^32 - 1 is wanted.
+    Counter,
 }
 
 /// What in a JSON value is no data item.
@@ -49,6 +68,16 @@ impl<E: MemoryError> From<E> for ItemFault {
 }
 
 impl ItemFault {
+    /// Returns that a value is no data item, for this reason.
+    pub fn here(alloc: Global, reason: ItemReason) -> ItemFault
+        ensures { FailsHere reason result }
+    {
+        ItemFault::NoItem(NoItem {
+            path: Vec::new(alloc),
+            reason,
+        })
+    }
+
     /// The same fault, of what has it in the element or the member at this index. Returns `OutOfMemory` if an
     /// allocation fails.
     pub fn under(self, index: usize) -> ItemFault

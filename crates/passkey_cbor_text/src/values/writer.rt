@@ -2,9 +2,11 @@
 
 use crate::diagnose::quote;
 use crate::values::StringForm;
-use crate::values::algorithms::{algorithm_name, algorithm_named};
 use crate::values::names::key_name;
 use crate::values::order::are_in_order;
+use crate::values::registries::{
+    algorithm_name, algorithm_named, curve_name, curve_named, key_type_name, key_type_named,
+};
 use passkey_bytes::encoding::base64url;
 use passkey_cbor::{Integer, Value};
 use passkey_memory::OutOfMemory;
@@ -34,10 +36,14 @@ fn push_integer(
     form: StringForm,
     number: Integer,
 ) -> Result<(), OutOfMemory> {
-    if form == StringForm::Algorithm {
-        if let Some(name) = algorithm_name(number) {
-            return push_quoted(out, alloc, name);
-        }
+    let name = match form {
+        StringForm::Algorithm => algorithm_name(number),
+        StringForm::KeyType => key_type_name(number),
+        StringForm::Curve => curve_name(number),
+        StringForm::Text | StringForm::Bytes | StringForm::Aaguid => None,
+    };
+    if let Some(name) = name {
+        return push_quoted(out, alloc, name);
     }
     let number = number.get();
     Ok(out.push_str(format!(in alloc; "{number}")?.as_str())?)
@@ -59,7 +65,7 @@ fn push_bytes(
     let text = quote(alloc, text.as_str())?;
     match form {
         StringForm::Bytes | StringForm::Aaguid => Ok(out.push_str(text.as_str())?),
-        StringForm::Text | StringForm::Algorithm => push_escape(out, "$bytes", text.as_str()),
+        _ => push_escape(out, "$bytes", text.as_str()),
     }
 }
 
@@ -72,6 +78,8 @@ fn push_text(
     let is_plain = match form {
         StringForm::Text => true,
         StringForm::Algorithm => algorithm_named(text).is_none(),
+        StringForm::KeyType => key_type_named(text).is_none(),
+        StringForm::Curve => curve_named(text).is_none(),
         StringForm::Bytes | StringForm::Aaguid => false,
     };
     let quoted = quote(alloc, text)?;

@@ -4,7 +4,6 @@ use Rattle.passkey_c.proofs.encode.encode_as.Goals as goal
 use Rattle.passkey_c.specs.Values.{IsRejection, unread}
 use Rattle.passkey_catalogue.specs.Catalogue.{definition}
 use Rattle.passkey_catalogue.specs.Rewriting.{IsRefusal}
-use Rattle.passkey_cbor.specs.View.{item_of}
 
 pub returns-in-Err-clause-err : goal.returns-in-Err-clause-err
 returns-in-Err-clause-err c = unread c.in-Err.fault c.in-Err.ensures.err c.unread.ensures.0 c.unread.ensures.1
@@ -15,7 +14,7 @@ returns-clause-err c =
     let fault = c.in-Err-encode.fault in
     let u = c.rejected.result in
     let told = option_map string_bytes u.text in
-    unencoded_by fault (item_of c.in-Ok.value) c.in-Ok.ensures.ok c.in-Ok-made.ensures.written
+    unencoded_by fault c.in-Ok.input.items c.in-Ok.ensures.ok
     (subst (λ (b : List ℕ). IsRefusal d b fault) c.as_slice.ensures.value c.in-Err-encode.ensures.err)
     (subst (λ (b : List ℕ). IsRejection d b fault u.status told) c.as_slice-in-Err-encode.ensures.value
     c.rejected.ensures)

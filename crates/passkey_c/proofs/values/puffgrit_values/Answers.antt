@@ -1,9 +1,10 @@
 use Rattle.std.proofs.Common.{Option, subst}
 use Rattle.passkey_c.proofs.Writing.{writes_of}
 use Rattle.passkey_c.proofs.values.puffgrit_values.Goals as goal
-use Rattle.passkey_c.specs.Values.{HasNoValues, WritesValues}
+use Rattle.passkey_c.specs.Values.{WritesValues}
 use Rattle.passkey_c.specs.Writing.{Outputs}
 use Rattle.passkey_catalogue.specs.Catalogue.{definition}
+use Rattle.passkey_catalogue.specs.Rewriting.{IsRefusal}
 use Rattle.passkey_catalogue.specs.Values.{ShowsValues}
 use Rattle.passkey_catalogue.specs.declared.kind.Kind.{Kind}
 
@@ -14,5 +15,5 @@ returns-in-Some c =
     let old : Outputs = record { read = c.args.read.now; out = c.args.out.now; len = c.args.len.now } in
     let new : Outputs = record { read = c.write.new.read; out = c.write.new.out; len = c.write.new.len } in
     subst (λ (k : Option Kind). WritesValues k input old new c.write.result) c.in-Some.ensures
-    (writes_of _ (ShowsValues d input) (HasNoValues d input) c.values_as.result c.values_as.ensures.ok
+    (writes_of _ (ShowsValues d input) (IsRefusal d input) c.values_as.result c.values_as.ensures.ok
     c.values_as.ensures.err c.write.ensures)

@@ -4,43 +4,43 @@ use Rattle.passkey_cbor.specs.View.{item_of, pair_of}
 use Rattle.passkey_cbor_text.proofs.Gathering.{reads_as}
 use Rattle.passkey_cbor_text.proofs.Indexed.{mapped_at}
 use Rattle.passkey_cbor_text.proofs.Pairs.{pushed}
-use Rattle.passkey_cbor_text.specs.declared.values.leaf.StringForm.{StringForm}
-use Rattle.passkey_cbor_text.specs.values.JsonItem.{leaf_item}
 use Rattle.passkey_explain.proofs.Blames.{look_there}
 use Rattle.passkey_kinds.specs.Look.{tested, HasForm}
 use Rattle.passkey_kinds.specs.Record.{naming_of, named_as, row}
 use Rattle.passkey_kinds.specs.declared.look.Form.{Form}
 use Rattle.passkey_kinds.specs.declared.rows.Named.{Named}
-use Rattle.passkey_render.proofs.Typing.{array_seen, each_goes, each_stops, escape_seen, leaf_read, list_read, members_read, no_elements, no_list_read, no_members, no_members_read, object_seen, row_read, table_shape}
-use Rattle.passkey_render.specs.Typed.{json_item, keys_of, member_item, named_in}
+use Rattle.passkey_render.proofs.Parts.{array_seen, each_goes, each_stops, escape_seen, no_elements, no_members, object_seen}
+use Rattle.passkey_render.proofs.Typing.{leaf_read, list_read, members_read, no_list_read, no_members_read, row_read, table_shape}
+use Rattle.passkey_render.specs.Parts.{named_in}
+use Rattle.passkey_render.specs.Typed.{json_item, keys_of, member_item}
 use Rattle.passkey_render.proofs.typed.+items.Goals as goal
 
 pub elements-returns-in-Err : goal.elements-returns-in-Err
 elements-returns-in-Err g t c = λ u reaches.
     let x = c.index-all-index in
     let at = mapped_at value_view c.args.all.now _ x.result x.is c.loop-index-test.true in
-    each_stops (json_item u.shape) _ _ _ _ _ at _ c.in-Err.fault c.under.result (c.loop-index.invariant u reaches)
+    each_stops (λ _. json_item u.shape) _ _ _ _ _ at _ c.in-Err.fault c.under.result (c.loop-index.invariant u reaches)
     (c.in-Err.ensures u reaches) c.under.ensures
 
 pub elements-loop-index-preserved : goal.elements-loop-index-preserved
 elements-loop-index-preserved g t c = λ u reaches.
     let x = c.index-all-index in
     let at = mapped_at value_view c.args.all.now _ x.result x.is c.loop-index-test.true in
-    each_goes (json_item u.shape) _ _ _ _ _ at _ _ (c.in-Ok.ensures u reaches)
+    each_goes (λ _. json_item u.shape) _ _ _ _ _ at _ _ (c.in-Ok.ensures u reaches)
     (pushed item_of _ _ _ c.in_ok-push-in-Ok.ensures.items) ∙ c.loop-index.invariant u reaches
 
 pub members-returns-in-Err : goal.members-returns-in-Err
 members-returns-in-Err g t c = λ of there.
     let x = c.index-all-index in
     let at = mapped_at named_in c.args.all.now _ x.result x.is c.loop-index-test.true in
-    each_stops (member_item (keys_of c.args.keys.now) of) _ _ _ _ _ at _ c.in-Err.fault c.under.result
+    each_stops (λ _. member_item (keys_of c.args.keys.now) of) _ _ _ _ _ at _ c.in-Err.fault c.under.result
     (c.loop-index.invariant of there) (c.in-Err.ensures of there) c.under.ensures
 
 pub members-loop-index-preserved : goal.members-loop-index-preserved
 members-loop-index-preserved g t c = λ of there.
     let x = c.index-all-index in
     let at = mapped_at named_in c.args.all.now _ x.result x.is c.loop-index-test.true in
-    each_goes (member_item (keys_of c.args.keys.now) of) _ _ _ _ _ at _ _ (c.in-Ok.ensures of there)
+    each_goes (λ _. member_item (keys_of c.args.keys.now) of) _ _ _ _ _ at _ _ (c.in-Ok.ensures of there)
     (pushed pair_of _ _ _ c.in_ok-push-in-Ok.ensures.items) ∙ c.loop-index.invariant of there
 
 pub list-returns-in_ok-inner-in-Array : goal.list-returns-in_ok-inner-in-Array
@@ -65,10 +65,9 @@ pub item-returns-in-Leaf : goal.item-returns-in-Leaf
 item-returns-in-Leaf g t c = λ u at.
     let l = look_there c.args.way.now (tested g.M.FromCbor.typed) u _ c.look.result c.in_ok-wanted.field-0 at
     c.look.ensures c.in_ok-wanted.was in
-    reads_as item_of _ _ c.item_from_json.result
-    (ap (λ (f : StringForm). leaf_item f (value_view c.args.json.now)) c.string_form.ensures
-    ∙ leaf_read u.shape c.in-Leaf.wanted (subst (λ (f : Form). HasForm u.shape f) c.in-Leaf.is l.form) _)
-    c.item_from_json.ensures
+    reads_as item_of _ _ c.wanted_item.result
+    (leaf_read u.shape c.in-Leaf.wanted (subst (λ (f : Form). HasForm u.shape f) c.in-Leaf.is l.form) _)
+    c.wanted_item.ensures
 
 pub table-returns-then-is_escape : goal.table-returns-then-is_escape
 table-returns-then-is_escape g t c = λ u reaches h.

@@ -15,8 +15,8 @@ returns-in-Some c = rw (c.in-Array.is, item_of-Array c.in-Array.pairs, item_of-M
     ∙ ap (λ (vs : List Value). pairs_from [] (map item_of vs)) c.deref.ensures.value))
 
 pub returns-in-None : goal.returns-in-None
-returns-in-None c = fails_here NoPairs _ c.refused-in-None.result
+returns-in-None c = fails_here NoPairs _ c.here-in-None.result
     (rw (c.in-Array.is, item_of-Array c.in-Array.pairs) (no_map (map item_of c.in-Array.pairs.items)
     ((rw c.in-None.is at c.in_ok-members.ensures)
     ∙ ap (λ (vs : List Value). pairs_from [] (map item_of vs)) c.deref.ensures.value)))
-    c.refused-in-None.ensures
+    c.here-in-None.ensures

@@ -1,18 +1,18 @@
--- The names of COSE algorithms (IANA's registry "COSE Algorithms").
-use Rattle.std.specs.Prelude.{ℕ, List, [], ◌∷◌, if◌then◌else◌, Option, Some, None, codes}
+-- Names in IANA's COSE registries: "COSE Algorithms", "COSE Key Types" and "COSE Elliptic Curves".
+use Rattle.std.specs.Prelude.{ℕ, ℤ, pos, List, [], ◌∷◌, if◌then◌else◌, Option, Some, None, codes}
 use Rattle.std.specs.Borrow.{Bor}
 use Rattle.std.specs.Str.{bytes_eq}
 use Rattle.passkey_iana.specs.declared.algorithm.Algorithm.{Algorithm}
 use Rattle.passkey_iana.specs.declared.algorithm.Algorithm.TheVariants as algorithm
 
-abbrev pub Row : Type 0
-Row = List ℕ × Algorithm
+abbrev pub Row : Type 0 → Type 0
+Row T = List ℕ × T
 
 -- a row of the code's table
-abbrev pub row_of : Bor (List ℕ) × Algorithm → Row
+abbrev pub row_of : {T : Type 0} → Bor (List ℕ) × T → Row T
 row_of r = (r.0.now, r.1)
 
-abbrev pub algorithms : List Row
+abbrev pub algorithms : List (Row Algorithm)
 algorithms = (codes "RS1", algorithm.RS1)
     ∷ (codes "RS512", algorithm.RS512)
     ∷ (codes "RS384", algorithm.RS384)
@@ -31,8 +31,29 @@ algorithms = (codes "RS1", algorithm.RS1)
     ∷ (codes "ES256", algorithm.ES256)
     ∷ []
 
--- the algorithm in the first row with this name
-abbrev pub named_in : List ℕ → List Row → Option Algorithm
+abbrev pub key_types : List (Row ℤ)
+key_types = (codes "OKP", pos 1)
+    ∷ (codes "EC2", pos 2)
+    ∷ (codes "RSA", pos 3)
+    ∷ (codes "Symmetric", pos 4)
+    ∷ (codes "HSS-LMS", pos 5)
+    ∷ (codes "WalnutDSA", pos 6)
+    ∷ (codes "AKP", pos 7)
+    ∷ []
+
+abbrev pub curves : List (Row ℤ)
+curves = (codes "P-256", pos 1)
+    ∷ (codes "P-384", pos 2)
+    ∷ (codes "P-521", pos 3)
+    ∷ (codes "X25519", pos 4)
+    ∷ (codes "X448", pos 5)
+    ∷ (codes "Ed25519", pos 6)
+    ∷ (codes "Ed448", pos 7)
+    ∷ (codes "secp256k1", pos 8)
+    ∷ []
+
+-- what the first row with this name has
+abbrev pub named_in : {T : Type 0} → List ℕ → List (Row T) → Option T
 named_in name [] = None
 named_in name (row ∷ rows) = if bytes_eq row.0 name then Some row.1 else named_in name rows
 
