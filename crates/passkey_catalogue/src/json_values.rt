@@ -8,17 +8,17 @@ ghost use Rattle.passkey_catalogue.specs.JsonTexts.{any_json_rewritten};
 ghost use Rattle.passkey_catalogue.specs.Rewriting.{IsKeyRefusal, IsRefusal, IsStatementRefusal, IsStructureRefusal};
 ghost use Rattle.passkey_catalogue.specs.Values.{EncodesValues, IsNoItem, RefusesEncoding, RefusesJson, RefusesText};
 ghost use Rattle.passkey_catalogue.specs.Values.{ShowsData, ShowsItem, ShowsJson, ShowsStructure, ShowsValues};
-ghost use Rattle.passkey_catalogue.specs.Values.{StandsFor, StandsForItem, json_fault, only_string, string_in, values_of};
+ghost use Rattle.passkey_catalogue.specs.Values.{StandsFor, StandsForItem, json_fault, string_in, values_of};
 ghost use Rattle.passkey_catalogue.specs.declared.json_values.ValuesFault.TheVariants.{Run as Ran};
 ghost use Rattle.passkey_catalogue.specs.declared.form.Form.TheVariants.{Key as a_key, Statement as a_statement};
 ghost use Rattle.passkey_cbor.specs.Depth.{depth};
-ghost use Rattle.passkey_cbor.specs.Item.{Item, byte_string};
+ghost use Rattle.passkey_cbor.specs.Item.{byte_string};
 ghost use Rattle.passkey_cbor.specs.LeadingItem.{IsLeadingItem, max_depth};
 ghost use Rattle.passkey_cbor.specs.View.{item_of};
 ghost use Rattle.passkey_cbor_text.specs.declared.values.leaf.StringForm.TheVariants.{Text as as_text, Bytes as as_bytes};
 ghost use Rattle.passkey_cbor_text.specs.values.Exact.{IsJsonOf};
 ghost use Rattle.passkey_cbor_text.specs.values.JsonItem.{leaf_item};
-ghost use Rattle.passkey_cbor_text.specs.values.NoItem.{Read, Reads, then_with};
+ghost use Rattle.passkey_cbor_text.specs.values.NoItem.{Reads};
 ghost use Rattle.passkey_core.specs.DataReading.{ReadsData};
 ghost use Rattle.passkey_core.specs.DataViews.{data_parts};
 ghost use Rattle.passkey_cose.specs.KeyReading.{read_key};
@@ -367,30 +367,30 @@ fn item_input<R: Reading>(alloc: Global, reading: &R, text: &[u8]) -> Result<Vec
     Ok(bytes?)
 }
 
-/// Returns the byte string that is the JSON text's data item.
+/// Returns the byte string that the JSON value is read as.
+fn string_in<R: Reading>(alloc: Global, reading: &R, json: &Json<'_>) -> Result<Vec<u8>, ItemFault>
+    ensures reads { Reads (λ v. byte_string v.items) (string_in (R.means reading.now) (value_view json.now)) result }
+    ensures means { IfOk result (λ v. R.means reading.now (value_view json.now) ≡ Ok (byte_string v.items)) }
+{
+    match reading.read(alloc, json) {
+        Ok(Value::Bytes(bytes)) => Ok(bytes),
+        Ok(_) => Err(ItemFault::here(alloc, ItemReason::Bytes)),
+        Err(fault) => Err(fault),
+    }
+}
+
+/// Returns the byte string that the JSON text is, if it is read so.
 fn string_input<R: Reading>(alloc: Global, reading: &R, text: &[u8]) -> Result<Vec<u8>, ValuesFault>
     ensures ok { IfOk result (λ v. IsJsonOf (R.means reading.now) (byte_string v.items) text.now) }
     ensures err { IfErr result (RefusesJson (string_in (R.means reading.now)) text.now) }
 {
     let mut scratch = Scratch::new(alloc);
     match Json::from_slice(alloc, text, &mut scratch) {
-        Ok(json) => match string_in(alloc, reading.read(alloc, &json)) {
+        Ok(json) => match string_in(alloc, reading, &json) {
             Ok(bytes) => Ok(bytes),
             Err(fault) => Err(no_item(alloc, &json, fault)),
         },
         Err(error) => Err(ValuesFault::Run(json_fault(error))),
-    }
-}
-
-/// Returns the byte string, if the data item is one.
-fn string_in(alloc: Global, item: Result<Value, ItemFault>) -> Result<Vec<u8>, ItemFault>
-    ensures { (o : Read Item) → Reads item_of o item
-        → Reads (λ v. byte_string v.items) (then_with only_string o) result }
-{
-    match item {
-        Ok(Value::Bytes(bytes)) => Ok(bytes),
-        Ok(_) => Err(ItemFault::here(alloc, ItemReason::Bytes)),
-        Err(fault) => Err(fault),
     }
 }
 
