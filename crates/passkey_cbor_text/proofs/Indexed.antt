@@ -10,11 +10,3 @@ mapped_at {Y = Y} seen xs i x e within =
     let here : get_or (map seen xs) i (seen x) ≡ seen x = get_or-map seen xs i x (seen x) within ∙ ap seen (sym e) in
     rw add-one
     (drop-cons (map seen xs) i (seen x) long ∙ ap (λ (y : Y). y ∷ drop (suc i) (map seen xs)) here)
-
--- the same, where the element is read with a default
-pub mapped_from : {X Y : Type 0} (seen : X → Y) (xs : List X) (i : ℕ) (d : X) → i < length xs
-    → drop i (map seen xs) ≡ seen (get_or xs i d) ∷ drop (i + 1) (map seen xs)
-mapped_from {Y = Y} seen xs i d within =
-    let long : i < length (map seen xs) = omega (arith, within, length-map xs seen) in
-    rw add-one (drop-cons (map seen xs) i (seen d) long
-    ∙ ap (λ (y : Y). y ∷ drop (suc i) (map seen xs)) (get_or-map seen xs i d (seen d) within))
