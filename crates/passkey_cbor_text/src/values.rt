@@ -13,7 +13,7 @@ mod writer;
 
 pub use escape::{is_escape, value_of_base64url, value_of_hex, value_of_number, value_of_text};
 pub use exact::{Reading, escape_of_item, exact_json, is_json_of, json_from_item};
-pub use leaf::{StringForm, item_from_json};
+pub use leaf::{StringForm, item_from_json, put_member};
 pub use names::key_name;
 pub use no_item::{ItemFault, ItemReason, NoItem};
 pub use registries::named_in;

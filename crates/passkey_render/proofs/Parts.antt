@@ -11,7 +11,7 @@ use Rattle.passkey_cbor_text.specs.values.JsonItem.{escape_in}
 use Rattle.passkey_cbor_text.specs.values.NoItem.{FailsAs, IsUnder, Read}
 use Rattle.passkey_kinds.specs.Shape as shape
 use Rattle.passkey_kinds.specs.declared.look.Form.TheVariants as form
-use Rattle.passkey_render.specs.Parts.{elements_of, items_in, members_in, members_of, named_in, Named, of_parts, read_each, unless}
+use Rattle.passkey_render.specs.Parts.{elements_of, items_in, members_in, members_of, named_in, Named, of_parts, read_all, read_each, unless}
 use Rattle.passkey_render.specs.declared.typed.Keys.TheVariants as code
 
 -- ---- one after the other
@@ -27,6 +27,15 @@ module _ {A B : Type 0} (of : List B → A → Read B) (before : List B) (n : �
   pub each_goes : (new : List B) (y : B) → of before x ≡ Ok y → new ≡ before ++ y ∷ []
       → read_each of new (n + 1) more ≡ read_each of before n rest
   each_goes new y has grown = rw (is, has, grown, add-one n) refl
+
+module _ {A B : Type 0} (of : B → A → Read B) (before : B) (n : ℕ) (x : A) (rest more : List A) (is : rest ≡ x ∷ more) where
+  pub all_stops : (whole : Read B) (e u : ItemFault) → read_all of before n rest ≡ whole → FailsAs (of before x) e
+      → IsUnder n e u → FailsAs whole u
+  all_stops whole e u so none under = fails_as _ whole u (sym (ap (λ (xs : List A). read_all of before n xs) is) ∙ so)
+      (fails_under n (of before x) _ e u none under)
+
+  pub all_goes : (after : B) → of before x ≡ Ok after → read_all of after (n + 1) more ≡ read_all of before n rest
+  all_goes after has = rw (is, has, add-one n) refl
 
 -- ---- looking at JSON values
 

@@ -6,12 +6,12 @@ use Rattle.passkey_cbor.specs.Item.{Item, number, text_string}
 use Rattle.passkey_cbor_text.specs.declared.values.leaf.StringForm.{StringForm}
 use Rattle.passkey_cbor_text.specs.declared.values.leaf.StringForm.TheVariants as string
 use Rattle.passkey_cbor_text.specs.values.Exact.{ReadsEscapes}
-use Rattle.passkey_cbor_text.specs.values.JsonItem.{leaf_item, map_of, member_of}
+use Rattle.passkey_cbor_text.specs.values.JsonItem.{leaf_item, map_of, member_of, placed}
 use Rattle.passkey_cbor_text.specs.values.Keys as keys
 use Rattle.passkey_cbor_text.specs.values.NoItem.{Read, read_map, then_with}
 use Rattle.passkey_cbor_text.specs.values.Ordered.{Member}
 use Rattle.passkey_cbor_text.specs.values.Registries.{Row, named_in}
-use Rattle.passkey_render.specs.Parts.{Named, members_of, of_parts, read_each}
+use Rattle.passkey_render.specs.Parts.{Named, members_of, of_parts, read_all}
 
 -- a parameter's label, and what a string is that is its value
 abbrev pub Parameter : Type 0
@@ -45,10 +45,13 @@ abbrev pub parameter_item : Named → Read Member
 parameter_item m = (let p = named_in m.0 parameters in
     then_with (λ key. member_of (Ok key) (leaf_item (form_of p) m.1)) (keys.key_item (λ name. Ok (label_of p name)) m.0))
 
+-- the parameters with another one, in CTAP2's order
+abbrev pub with_parameter : List Member → Named → Read (List Member)
+with_parameter before m = placed before (parameter_item m)
+
 -- the data item that a JSON value is where a key is wanted
 abbrev pub key_item : Json → Read Item
-key_item j = of_parts (members_of j) (λ ms. read_map map_of (read_each (λ _. parameter_item) [] 0 ms))
-    (leaf_item string.Text j)
+key_item j = of_parts (members_of j) (λ ms. read_map map_of (read_all with_parameter [] 0 ms)) (leaf_item string.Text j)
 
 pub key_reads_escapes : ReadsEscapes key_item
 key_reads_escapes digits i e = rw e refl

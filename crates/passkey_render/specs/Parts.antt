@@ -14,6 +14,11 @@ abbrev pub read_each : {A B : Type 0} → (List B → A → Read B) → List B �
 read_each of before n [] = Ok before
 read_each of before n (x ∷ xs) = then_with (λ y. read_each of (before ++ y ∷ []) (suc n) xs) (at n (of before x))
 
+-- What becomes of what was there before by one of these after the other, of which the first has this index.
+abbrev pub read_all : {A B : Type 0} → (B → A → Read B) → B → ℕ → List A → Read B
+read_all of before n [] = Ok before
+read_all of before n (x ∷ xs) = then_with (λ after. read_all of after (suc n) xs) (at n (of before x))
+
 -- of the parts, if there are any
 abbrev pub of_parts : {A B : Type 0} → Option A → (A → Read B) → Read B → Read B
 of_parts (Some parts) of other = of parts

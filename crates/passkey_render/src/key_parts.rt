@@ -6,15 +6,15 @@ ghost use Rattle.passkey_cbor.specs.View.{item_of, pair_of};
 ghost use Rattle.passkey_cbor_text.specs.values.Keys as keys;
 ghost use Rattle.passkey_cbor_text.specs.values.NoItem.{Reads};
 ghost use Rattle.passkey_cbor_text.specs.values.Registries.{named_in as value_named, row_of};
-ghost use Rattle.passkey_render.specs.KeyParts.{form_of, key_item, label_of, parameter_item, parameters};
-ghost use Rattle.passkey_render.specs.Parts.{named_in, read_each};
+ghost use Rattle.passkey_render.specs.KeyParts.{form_of, key_item, label_of, parameter_item, parameters, with_parameter};
+ghost use Rattle.passkey_render.specs.Parts.{named_in, read_all};
 
 use crate::typed::map_of;
 use json::Value as Json;
 use passkey_cbor::{Integer, Value};
 use passkey_cbor_text::values::{
-    ItemFault, StringForm, is_escape, item_from_json, named_in, value_of_hex, value_of_number,
-    value_of_text,
+    ItemFault, StringForm, is_escape, item_from_json, named_in, put_member, value_of_hex,
+    value_of_number, value_of_text,
 };
 use passkey_memory::OutOfMemory;
 use std::alloc::Global;
@@ -82,13 +82,12 @@ fn member(alloc: Global, name: &str, json: &Json<'_>) -> Result<(Value, Value), 
 }
 
 fn members(alloc: Global, all: &[(&str, Json<'_>)]) -> Result<Vec<(Value, Value)>, ItemFault>
-    ensures { Reads (λ v. map pair_of v.items)
-        (read_each (λ _. parameter_item) [] 0 (map named_in all.now)) result }
+    ensures { Reads (λ v. map pair_of v.items) (read_all with_parameter [] 0 (map named_in all.now)) result }
 {
     let mut found = Vec::new(alloc);
     for (index, (name, json)) in all.iter().enumerate() {
-        match member(alloc, name, json) {
-            Ok(member) => found.push(member)?,
+        match put_member(alloc, &mut found, member(alloc, name, json)) {
+            Ok(()) => {}
             Err(fault) => return Err(fault.under(index)),
         }
     }
@@ -96,7 +95,7 @@ fn members(alloc: Global, all: &[(&str, Json<'_>)]) -> Result<Vec<(Value, Value)
 }
 
 /// Returns the data item that the JSON value is where a COSE key is wanted: an object as a map, whose members
-/// are named after the parameters of keys, such as `kty`, `crv` and `x`, with key types, curves and algorithms
+/// are put in CTAP2's order and named after the parameters of keys, such as `kty`, `crv` and `x`, with key types, curves and algorithms
 /// by their names or numbers, and byte strings in base64url; and all else as
 /// `passkey_cbor_text::values::item_from_json` has it, escapes too. Whether the item is a key isn't said. The
 /// errors are those of that call, with where in the JSON it is (RFC 9052, section 7).

@@ -99,8 +99,9 @@ fn elements(alloc: Global, all: &[Json<'_>]) -> Result<Vec<Value>, ItemFault>
     Ok(found)
 }
 
-/// Puts the member among the others, unless it wasn't made or one of them has its key.
-fn put(
+/// Puts the member among the others, which are in CTAP2's order (CTAP 2.1, section 8), unless it wasn't made.
+/// Returns `NoItem` if one of them has its key, and `OutOfMemory` if an allocation fails.
+pub fn put_member(
     alloc: Global,
     found: &mut Vec<(Value, Value)>,
     member: Result<(Value, Value), ItemFault>,
@@ -130,7 +131,7 @@ fn members(alloc: Global, all: &[(&str, Json<'_>)]) -> Result<Vec<(Value, Value)
 {
     let mut found = Vec::new(alloc);
     for (index, (name, json)) in all.iter().enumerate() {
-        match put(alloc, &mut found, member(alloc, name, json)) {
+        match put_member(alloc, &mut found, member(alloc, name, json)) {
             Ok(()) => {}
             Err(fault) => return Err(fault.under(index)),
         }

@@ -21,8 +21,8 @@ pub enum ItemReason {
     String,
     /// Another key is wanted, since an earlier member has this one.
     Repeated,
-    /// The members of authenticator data are wanted: `rpIdHash`, `flags` and `signCount`, and no others but
-    /// `attestedCredentialData` and `extensions`.
+    /// The members of authenticator data are wanted: `rpIdHash`, `flags` and `signCount`;
+    /// `attestedCredentialData` if AT is set, `extensions` if ED is; and no others.
     DataParts,
     /// The members of attested credential data are wanted: `aaguid`, `credentialId` and
     /// `credentialPublicKey`, and no others.
