@@ -105,6 +105,8 @@ class CtapGaRequest(TypedDict, total=False):
     options: RequestOptions
     pinUvAuthParam: bytes
     pinUvAuthProtocol: int
+    enterpriseAttestation: int
+    attestationFormatsPreference: list[str]
 
 
 class CtapMcResponse(TypedDict, total=False):
@@ -129,6 +131,8 @@ class CtapGaResponse(TypedDict, total=False):
     userSelected: bool
     largeBlobKey: bytes
     unsignedExtensionOutputs: Any
+    epAtt: bool
+    attStmt: Any
 
 
 class MakeCredentialRequest(TypedDict, total=False):

@@ -11,9 +11,9 @@ use Rattle.passkey_registered.specs.make_credential.McRequest.{mc_request}
 pub ga_request_law : IsKeeping (λ r. r) ga_request (λ r. r.extensions)
 unfolding shortest_head
 ga_request_law = keeping_law ga_request 3 4 (omega arith) (λ r. refl) (λ r. refl) (λ r. refl)
-    (λ Q rule r key. search (rule.holds, plainly, list_plain 2, descriptor_law.plain 0, request_options_law.plain 2) depth 20)
+    (λ Q rule r key. search (rule.holds, plainly, list_plain 2, descriptor_law.plain 0, request_options_law.plain 2) depth 24)
     (λ Q r each. search) (λ m. tt)
-    (λ m i less. search (present_keeps not_null_around) depth 15 parts 15) (λ r fits.
+    (λ m i less. search (present_keeps not_null_around) depth 18 parts 18) (λ r fits.
     puts_value text_back r.rp_id tt ▸
     puts_value hash_back r.client_data_hash.0 (search) ▸
     puts_default (present_place (list_same descriptor_law.back) r.allow_list (search)) refl ▸
@@ -21,6 +21,9 @@ ga_request_law = keeping_law ga_request 3 4 (omega arith) (λ r. refl) (λ r. re
     puts_default (present_place request_options_law.back r.options (search)) refl ▸
     puts_default (present_place exact_bytes_back r.pin_uv_auth_param (anything r.pin_uv_auth_param)) refl ▸
     puts_default (present_place long_back r.pin_uv_auth_protocol (search)) refl ▸
+    puts_default (present_place long_back r.enterprise_attestation (search)) refl ▸
+    puts_default (present_place (list_same text_back) r.attestation_formats_preference
+    (all_of_anything r.attestation_formats_preference)) refl ▸
     no_more)
 
 pub mc_request_law : IsKeeping (λ r. r) mc_request (λ r. r.extensions)

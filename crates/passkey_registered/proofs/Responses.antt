@@ -5,7 +5,7 @@ use Rattle.passkey_kinds.proofs.Back.{Backs, are_distinct, have_rows, kind_back,
 use Rattle.passkey_kinds.proofs.Common.{AllCanonical, AtMostOneLeadingItem, EachFits, IsOrdered, IsReadBack, IsWritable, Item, KeysAscend, List, None, Option, PlainTable, ReadIsCoherent, Some, WrittenIsCanonical, WrittenIsLeadingItem, and_from, and_parts, arith, depth, le-leb, leb-true, members_of, places_of, plain_tree, read_item, record_kind, refl, same_tests, table_of, true, ℕ, ◌&&◌, ◌+◌, ◌++◌, ◌≡◌, ◌≤◌, option_map}
 use Rattle.passkey_kinds.proofs.Keeping.{Keeps, record_keeps}
 use Rattle.passkey_kinds.proofs.Levels.{EachPlace, PlaceHas, of_record as levels_of, record_within}
-use Rattle.passkey_kinds.proofs.Numbered.{IsKeeping, keeping_law, long_back, not_null_around, not_null_back}
+use Rattle.passkey_kinds.proofs.Numbered.{long_back, not_null_around, not_null_back}
 use Rattle.passkey_kinds.proofs.Ordered.{IsPlain, Rule, ascend, canonical_of, few_levels, in_order, keys_ascend, number_plain, of_record, ordered_of, record_ordered, text_plain}
 use Rattle.passkey_kinds.proofs.Steps.{anything, no_more, plainly, puts_default, puts_value, shortest_head, text_back, truth_back, ◌▸◌}
 use Rattle.passkey_kinds.specs.Message.{kept_if_some}
@@ -20,24 +20,6 @@ use Rattle.passkey_registered.specs.make_credential.McResponse.{mc_response}
 use Rattle.std.specs.Prelude.{[], ◌∷◌, codes, pos}
 use Rattle.passkey_kinds.specs.Tree.{number_tree}
 use Rattle.passkey_kinds.specs.Words.{text_string}
-
--- ---- responses to use a credential keep one item
-
-pub ga_response_law : IsKeeping (λ r. r) ga_response (λ r. r.unsigned_extension_outputs)
-unfolding shortest_head
-ga_response_law = keeping_law ga_response 3 8 (omega arith) (λ r. refl) (λ r. refl) (λ r. refl)
-    (λ Q rule r key. search (rule.holds, plainly, descriptor_law.plain 1, user_law.plain 2) depth 22)
-    (λ Q r each. search) (λ m. tt)
-    (λ m i less. search (present_keeps map_around) depth 17 parts 17) (λ r fits.
-    puts_default (present_place descriptor_law.back r.credential (search)) refl ▸
-    puts_value exact_bytes_back r.auth_data tt ▸
-    puts_value exact_bytes_back r.signature tt ▸
-    puts_default (present_place user_law.back r.user (search)) refl ▸
-    puts_default (present_place long_back r.number_of_credentials (search)) refl ▸
-    puts_default (present_place truth_back r.user_selected (anything r.user_selected)) refl ▸
-    puts_default (present_place hash_back r.large_blob_key (search)) refl ▸
-    puts_default (present_place map_back r.unsigned_extension_outputs (search)) refl ▸
-    no_more)
 
 -- ---- messages that keep two items
 
@@ -160,6 +142,59 @@ mc_response_law = keeps_two mc_response (λ r. r.att_stmt) (λ r. r.unsigned_ext
     puts_default (present_place truth_back r.ep_att (anything r.ep_att)) refl ▸
     puts_default (present_place hash_back r.large_blob_key (search)) refl ▸
     puts_default (present_place map_back r.unsigned_extension_outputs (search)) refl ▸
+    no_more)
+
+-- ---- responses to use a credential
+
+pub ga_response_law : KeepsTwo ga_response (λ r. r.unsigned_extension_outputs) (λ r. r.att_stmt)
+unfolding shortest_head
+ga_response_law = keeps_two ga_response (λ r. r.unsigned_extension_outputs) (λ r. r.att_stmt) 3 (omega arith)
+    (number_tree 8) (number_tree 10) (number_plain 3 (pos 8)) (number_plain 3 (pos 10))
+    (λ r. refl) (λ r. refl) (λ r. refl)
+    (λ Q rule r x y. search (rule.holds, plainly, descriptor_law.plain 1, user_law.plain 2) depth 24)
+    (λ Q r each. search) (tt, tt)
+    (λ i less.
+    let few : depth i ≤ 255 + 1 = omega (arith, less) in (
+      λ x v r l e h. h,
+      (
+        λ x v r l e h. h,
+        (
+          λ x v r l e h. h,
+          (
+            λ x v r l e h. h,
+            (
+              λ x v r l e h. h,
+              (
+                λ x v r l e h. h,
+                (
+                  λ x v r l e h. h,
+                  (
+                    λ x v r l e h. (present_keeps map_around 255 (depth i) x v e l few, h.1),
+                    (
+                      λ x v r l e h. h,
+                      (
+                        λ x v r l e h. (h.0, present_keeps map_around 255 (depth i) x v e l few),
+                        tt,
+                      ),
+                    ),
+                  ),
+                ),
+              ),
+            ),
+          ),
+        ),
+      ),
+    )) (λ r fits.
+    puts_default (present_place descriptor_law.back r.credential (search)) refl ▸
+    puts_value exact_bytes_back r.auth_data tt ▸
+    puts_value exact_bytes_back r.signature tt ▸
+    puts_default (present_place user_law.back r.user (search)) refl ▸
+    puts_default (present_place long_back r.number_of_credentials (search)) refl ▸
+    puts_default (present_place truth_back r.user_selected (anything r.user_selected)) refl ▸
+    puts_default (present_place hash_back r.large_blob_key (search)) refl ▸
+    puts_default (present_place map_back r.unsigned_extension_outputs (search)) refl ▸
+    puts_default (present_place truth_back r.ep_att (anything r.ep_att)) refl ▸
+    puts_default (present_place map_back r.att_stmt (search)) refl ▸
     no_more)
 
 -- ---- attestation objects

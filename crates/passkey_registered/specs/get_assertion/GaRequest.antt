@@ -17,6 +17,8 @@ ga_request = record {
     options = None;
     pin_uv_auth_param = None;
     pin_uv_auth_protocol = None;
+    enterprise_attestation = None;
+    attestation_formats_preference = None;
   };
   members = required_at 1 (codes "rpId") text (λ r. r.rp_id) (λ x r. record r { rp_id = x })
       ∷ required_at 2 (codes "clientDataHash") hash (λ r. r.client_data_hash.0)
@@ -29,5 +31,9 @@ ga_request = record {
       (λ x r. record r { pin_uv_auth_param = x })
       ∷ present_at 7 (codes "pinUvAuthProtocol") long (λ r. r.pin_uv_auth_protocol)
       (λ x r. record r { pin_uv_auth_protocol = x })
+      ∷ present_at 8 (codes "enterpriseAttestation") long (λ r. r.enterprise_attestation)
+      (λ x r. record r { enterprise_attestation = x })
+      ∷ present_at 9 (codes "attestationFormatsPreference") (list_of text) (λ r. r.attestation_formats_preference)
+      (λ x r. record r { attestation_formats_preference = x })
       ∷ [];
 }

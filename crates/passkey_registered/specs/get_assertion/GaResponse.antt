@@ -1,11 +1,11 @@
 -- authenticatorGetAssertion and authenticatorGetNextAssertion responses, by the standard alone (CTAP 2.2, sections 6.2.2 and 6.3).
-use Rattle.std.specs.Prelude.{[], ◌∷◌, None, codes}
+use Rattle.std.specs.Prelude.{[], ◌∷◌, List, None, codes}
 use Rattle.passkey_kinds.specs.Coded.{truth}
 use Rattle.passkey_kinds.specs.Numbered.{long}
-use Rattle.passkey_kinds.specs.Words.{PlainTable, plain, required_at}
+use Rattle.passkey_kinds.specs.Words.{Item, PlainTable, plain, required_at}
 use Rattle.passkey_registered.specs.Entities.{descriptor, user}
 use Rattle.passkey_registered.specs.Exact.{exact_bytes, hash, present_at}
-use Rattle.passkey_registered.specs.Kept.{kept_map}
+use Rattle.passkey_registered.specs.Kept.{both_kept, kept_map}
 use Rattle.passkey_registered.specs.declared.get_assertion.response.Response.{Response}
 
 abbrev pub ga_response : PlainTable Response
@@ -19,6 +19,8 @@ ga_response = record {
     user_selected = None;
     large_blob_key = None;
     unsigned_extension_outputs = None;
+    ep_att = None;
+    att_stmt = None;
   };
   members = present_at 1 (codes "credential") (plain descriptor) (λ r. r.credential) (λ x r. record r { credential = x })
       ∷ required_at 2 (codes "authData") exact_bytes (λ r. r.auth_data) (λ x r. record r { auth_data = x })
@@ -30,5 +32,11 @@ ga_response = record {
       ∷ present_at 7 (codes "largeBlobKey") hash (λ r. r.large_blob_key) (λ x r. record r { large_blob_key = x })
       ∷ present_at 8 (codes "unsignedExtensionOutputs") kept_map (λ r. r.unsigned_extension_outputs)
       (λ x r. record r { unsigned_extension_outputs = x })
+      ∷ present_at 9 (codes "epAtt") truth (λ r. r.ep_att) (λ x r. record r { ep_att = x })
+      ∷ present_at 10 (codes "attStmt") kept_map (λ r. r.att_stmt) (λ x r. record r { att_stmt = x })
       ∷ [];
 }
+
+-- what a response keeps undecoded
+abbrev pub ga_response_kept : Response → List Item
+ga_response_kept r = both_kept r.unsigned_extension_outputs r.att_stmt

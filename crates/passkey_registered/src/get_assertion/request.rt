@@ -28,6 +28,10 @@ pub struct Request {
     pub pin_uv_auth_param: Option<Bytes>,
     /// 0x07: the PIN/UV auth protocol of `pin_uv_auth_param`.
     pub pin_uv_auth_protocol: Option<u64>,
+    /// 0x08: which enterprise attestation is asked for, 1 or 2.
+    pub enterprise_attestation: Option<u64>,
+    /// 0x09: the attestation statement formats that are asked for, the preferred first.
+    pub attestation_formats_preference: Option<List<Text>>,
 }
 
 impl TableRecord for Request {
@@ -48,6 +52,8 @@ impl TableRecord for Request {
             Row::Optional(5, "options"),
             Row::Optional(6, "pinUvAuthParam"),
             Row::Optional(7, "pinUvAuthProtocol"),
+            Row::Optional(8, "enterpriseAttestation"),
+            Row::Optional(9, "attestationFormatsPreference"),
         ]
     }
 
@@ -60,6 +66,8 @@ impl TableRecord for Request {
             options: None,
             pin_uv_auth_param: None,
             pin_uv_auth_protocol: None,
+            enterprise_attestation: None,
+            attestation_formats_preference: None,
         }
     }
 
@@ -72,6 +80,8 @@ impl TableRecord for Request {
             5 => set_present(&mut self.options, alloc, source),
             6 => set_present_bytes(&mut self.pin_uv_auth_param, alloc, source),
             7 => set_present(&mut self.pin_uv_auth_protocol, alloc, source),
+            8 => set_present(&mut self.enterprise_attestation, alloc, source),
+            9 => set_present(&mut self.attestation_formats_preference, alloc, source),
             _ => Err(Refusal::Refused),
         }
     }
@@ -84,6 +94,8 @@ impl TableRecord for Request {
         sink.put_some(alloc, 5_u8, &self.options)?;
         sink.put_some(alloc, 6_u8, &self.pin_uv_auth_param)?;
         sink.put_some(alloc, 7_u8, &self.pin_uv_auth_protocol)?;
+        sink.put_some(alloc, 8_u8, &self.enterprise_attestation)?;
+        sink.put_some(alloc, 9_u8, &self.attestation_formats_preference)?;
         Ok(())
     }
 

@@ -1,12 +1,19 @@
 //! authenticatorGetAssertion and authenticatorGetNextAssertion responses.
+ghost use Rattle.std.specs.Prelude.{◌≡◌};
+ghost use Rattle.passkey_kinds.specs.Numbered.{is_shallow, numbered_fields};
+ghost use Rattle.passkey_kinds.specs.Words.{EachFits, places_of, plain_tree};
 ghost use Rattle.passkey_registered.specs.get_assertion.GaResponse.{ga_response};
 
 use crate::entities::{CredentialDescriptor, UserEntity};
 use crate::exact::{set_bytes, set_present};
-use crate::kept_map::KeptMap;
+use crate::kept_map::{KeptMap, is_room_for};
 use crate::large_blob_key::LargeBlobKey;
 use passkey_bytes::Bytes;
-use passkey_kinds::{Kept, OutOfMemory, Refusal, Row, Sink, Source, TableMessage, TableRecord};
+use passkey_cbor::Cursor;
+use passkey_kinds::{
+    Fault, Message, OutOfMemory, Record, Refusal, Row, Sink, Source, ToCborMap, WriteFault,
+    read_message, write_message,
+};
 use std::alloc::Global;
 
 /// An authenticatorGetAssertion or authenticatorGetNextAssertion response, by the standard alone (CTAP
@@ -34,12 +41,21 @@ pub struct Response {
     pub large_blob_key: Option<LargeBlobKey>,
     /// 0x08: the extension outputs that are outside the authenticator data, kept undecoded.
     pub unsigned_extension_outputs: Option<KeptMap>,
+    /// 0x09: whether an enterprise attestation was returned. An absent member means false.
+    pub ep_att: Option<bool>,
+    /// 0x0A: the attestation statement, kept undecoded.
+    pub att_stmt: Option<KeptMap>,
 }
 
-impl TableRecord for Response {
-    ghost table = { ga_response };
+/// It keeps two items, so it is no `TableMessage`.
+impl Record for Response {
+    ghost parts = { λ r. r };
 
-    ghost kept = { λ r. r.unsigned_extension_outputs };
+    ghost fields = { numbered_fields ga_response };
+
+    ghost tree = { plain_tree ga_response };
+
+    ghost coherent = { is_shallow ga_response };
 
     fn is_numbered() -> bool {
         true
@@ -55,6 +71,8 @@ impl TableRecord for Response {
             Row::Optional(6, "userSelected"),
             Row::Optional(7, "largeBlobKey"),
             Row::Optional(8, "unsignedExtensionOutputs"),
+            Row::Optional(9, "epAtt"),
+            Row::Optional(10, "attStmt"),
         ]
     }
 
@@ -68,6 +86,8 @@ impl TableRecord for Response {
             user_selected: None,
             large_blob_key: None,
             unsigned_extension_outputs: None,
+            ep_att: None,
+            att_stmt: None,
         }
     }
 
@@ -81,9 +101,17 @@ impl TableRecord for Response {
             6 => set_present(&mut self.user_selected, alloc, source),
             7 => set_present(&mut self.large_blob_key, alloc, source),
             8 => set_present(&mut self.unsigned_extension_outputs, alloc, source),
+            9 => set_present(&mut self.ep_att, alloc, source),
+            10 => set_present(&mut self.att_stmt, alloc, source),
             _ => Err(Refusal::Refused),
         }
     }
+}
+
+impl ToCborMap for Response {
+    ghost places = { λ r. places_of ga_response.members r };
+
+    ghost holds = { λ r. EachFits ga_response.members r };
 
     fn put_members<S: Sink>(&self, alloc: Global, sink: &mut S) -> Result<(), OutOfMemory> {
         sink.put_some(alloc, 1_u8, &self.credential)?;
@@ -94,23 +122,31 @@ impl TableRecord for Response {
         sink.put_some(alloc, 6_u8, &self.user_selected)?;
         sink.put_some(alloc, 7_u8, &self.large_blob_key)?;
         sink.put_some(alloc, 8_u8, &self.unsigned_extension_outputs)?;
+        sink.put_some(alloc, 9_u8, &self.ep_att)?;
+        sink.put_some(alloc, 10_u8, &self.att_stmt)?;
         Ok(())
     }
 
     #[tactic(auto, using(crate::proofs::Responses::ga_response_law))]
-    fn lawful() {}
+    fn ordered() {}
 }
 
-impl TableMessage for Response {
+impl Message for Response {
     ghost cost = { 5 };
 
-    fn kept(&self) -> Option<&Kept> {
-        match &self.unsigned_extension_outputs {
-            Some(outputs) => Some(outputs.item()),
-            None => None,
-        }
+    fn read(alloc: Global, cursor: &mut Cursor<'_>) -> Result<Response, Fault> {
+        read_message(alloc, cursor)
+    }
+
+    fn to_vec(&self, alloc: Global) -> Result<Vec<u8>, WriteFault> {
+        write_message(alloc, self)
     }
 
     #[tactic(auto, using(crate::proofs::Responses::ga_response_law))]
-    fn is_message() {}
+    fn is_coherent(&self) -> bool {
+        is_room_for(&self.unsigned_extension_outputs) && is_room_for(&self.att_stmt)
+    }
+
+    #[tactic(auto, using(crate::proofs::Responses::ga_response_law))]
+    fn decoded_is_coherent() {}
 }
