@@ -12,7 +12,7 @@ use Rattle.passkey_kinds.specs.Message.{kept_if_some}
 use Rattle.passkey_kinds.specs.Numbered.{has_room, is_shallow, numbered_fields}
 use Rattle.passkey_registered.proofs.EntityLaws.{descriptor_law, user_law}
 use Rattle.passkey_registered.proofs.ExactValues.{exact_bytes_back, hash_back, present_keeps, present_place}
-use Rattle.passkey_registered.proofs.KeptValues.{map_around, map_back}
+use Rattle.passkey_registered.proofs.KeptValues.{kept_data_back, map_around, map_back}
 use Rattle.passkey_registered.specs.Kept.{both_kept}
 use Rattle.passkey_registered.specs.get_assertion.GaResponse.{ga_response}
 use Rattle.passkey_registered.specs.make_credential.AttestationObject.{attestation_object}
@@ -137,7 +137,7 @@ mc_response_law = keeps_two mc_response (λ r. r.att_stmt) (λ r. r.unsigned_ext
       ),
     )) (λ r fits.
     puts_value text_back r.fmt tt ▸
-    puts_value exact_bytes_back r.auth_data tt ▸
+    puts_value kept_data_back r.auth_data (search) ▸
     puts_default (present_place map_back r.att_stmt (search)) refl ▸
     puts_default (present_place truth_back r.ep_att (anything r.ep_att)) refl ▸
     puts_default (present_place hash_back r.large_blob_key (search)) refl ▸
@@ -186,7 +186,7 @@ ga_response_law = keeps_two ga_response (λ r. r.unsigned_extension_outputs) (λ
       ),
     )) (λ r fits.
     puts_default (present_place descriptor_law.back r.credential (search)) refl ▸
-    puts_value exact_bytes_back r.auth_data tt ▸
+    puts_value kept_data_back r.auth_data (search) ▸
     puts_value exact_bytes_back r.signature tt ▸
     puts_default (present_place user_law.back r.user (search)) refl ▸
     puts_default (present_place long_back r.number_of_credentials (search)) refl ▸
@@ -213,5 +213,5 @@ attestation_object_law = keeps_two attestation_object (λ o. Some o.att_stmt) (�
     )) (λ o fits.
     puts_value text_back o.fmt tt ▸
     puts_value not_null_back o.att_stmt (search) ▸
-    puts_value exact_bytes_back o.auth_data tt ▸
+    puts_value kept_data_back o.auth_data (search) ▸
     no_more)

@@ -19,6 +19,12 @@ impl ExactBytes {
     {
         self.0.as_slice()
     }
+
+    pub(crate) fn into_bytes(self) -> Bytes
+        ensures { result ≡ self.0 }
+    {
+        self.0
+    }
 }
 
 impl FromCbor for ExactBytes {

@@ -10,11 +10,13 @@ mod exact;
 pub mod extensions;
 pub mod get_assertion;
 pub mod get_info;
+mod kept_data;
 mod kept_map;
 mod large_blob_key;
 pub mod make_credential;
 
 pub use canonical_form::{canonical_message, canonical_vec, in_canonical_form};
 pub use client_data_hash::ClientDataHash;
+pub use kept_data::KeptAuthenticatorData;
 pub use kept_map::KeptMap;
 pub use large_blob_key::LargeBlobKey;

@@ -1,18 +1,18 @@
 -- authenticatorGetAssertion and authenticatorGetNextAssertion responses, by the standard alone (CTAP 2.2, sections 6.2.2 and 6.3).
-use Rattle.std.specs.Prelude.{[], ◌∷◌, List, None, codes}
+use Rattle.std.specs.Prelude.{[], ◌∷◌, List, None, codes, replicate}
 use Rattle.passkey_kinds.specs.Coded.{truth}
 use Rattle.passkey_kinds.specs.Numbered.{long}
 use Rattle.passkey_kinds.specs.Words.{Item, PlainTable, plain, required_at}
 use Rattle.passkey_registered.specs.Entities.{descriptor, user}
 use Rattle.passkey_registered.specs.Exact.{exact_bytes, hash, present_at}
-use Rattle.passkey_registered.specs.Kept.{both_kept, kept_map}
+use Rattle.passkey_registered.specs.Kept.{both_kept, kept_data, kept_map}
 use Rattle.passkey_registered.specs.declared.get_assertion.response.Response.{Response}
 
 abbrev pub ga_response : PlainTable Response
 ga_response = record {
   blank = record {
     credential = None;
-    auth_data = [];
+    auth_data = replicate 37 0;
     signature = [];
     user = None;
     number_of_credentials = None;
@@ -23,7 +23,7 @@ ga_response = record {
     att_stmt = None;
   };
   members = present_at 1 (codes "credential") (plain descriptor) (λ r. r.credential) (λ x r. record r { credential = x })
-      ∷ required_at 2 (codes "authData") exact_bytes (λ r. r.auth_data) (λ x r. record r { auth_data = x })
+      ∷ required_at 2 (codes "authData") kept_data (λ r. r.auth_data) (λ x r. record r { auth_data = x })
       ∷ required_at 3 (codes "signature") exact_bytes (λ r. r.signature) (λ x r. record r { signature = x })
       ∷ present_at 4 (codes "user") (plain user) (λ r. r.user) (λ x r. record r { user = x })
       ∷ present_at 5 (codes "numberOfCredentials") long (λ r. r.number_of_credentials)

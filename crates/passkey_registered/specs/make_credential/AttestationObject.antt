@@ -1,21 +1,20 @@
 -- Attestation objects (WebAuthn Level 3, section 6.5.4).
-use Rattle.std.specs.Prelude.{[], ◌∷◌, List, None, Some, codes}
+use Rattle.std.specs.Prelude.{[], ◌∷◌, List, None, Some, codes, replicate}
 use Rattle.passkey_cbor.specs.Item.{map, no_pairs}
 use Rattle.passkey_kinds.specs.Coded.{text}
 use Rattle.passkey_kinds.specs.Numbered.{kept_item}
 use Rattle.passkey_kinds.specs.Words.{Item, PlainTable, required_as}
-use Rattle.passkey_registered.specs.Exact.{exact_bytes}
-use Rattle.passkey_registered.specs.Kept.{both_kept}
+use Rattle.passkey_registered.specs.Kept.{both_kept, kept_data}
 use Rattle.passkey_registered.specs.declared.make_credential.attestation_object.AttestationObject.{AttestationObject}
 use Rattle.passkey_registered.specs.declared.make_credential.response.Response.{Response}
 
 -- a member has its name, and is also decoded under its number in a response
 abbrev pub attestation_object : PlainTable AttestationObject
 attestation_object = record {
-  blank = record { fmt = []; att_stmt = map no_pairs; auth_data = [] };
+  blank = record { fmt = []; att_stmt = map no_pairs; auth_data = replicate 37 0 };
   members = required_as 1 (codes "fmt") text (λ o. o.fmt) (λ x o. record o { fmt = x })
       ∷ required_as 3 (codes "attStmt") kept_item (λ o. o.att_stmt) (λ x o. record o { att_stmt = x })
-      ∷ required_as 2 (codes "authData") exact_bytes (λ o. o.auth_data) (λ x o. record o { auth_data = x })
+      ∷ required_as 2 (codes "authData") kept_data (λ o. o.auth_data) (λ x o. record o { auth_data = x })
       ∷ [];
 }
 

@@ -6,13 +6,14 @@ ghost use Rattle.passkey_registered.specs.get_assertion.GaResponse.{ga_response}
 
 use crate::entities::{CredentialDescriptor, UserEntity};
 use crate::exact::{set_bytes, set_present};
+use crate::kept_data::KeptAuthenticatorData;
 use crate::kept_map::{KeptMap, is_room_for};
 use crate::large_blob_key::LargeBlobKey;
 use passkey_bytes::Bytes;
 use passkey_cbor::Cursor;
 use passkey_kinds::{
     Fault, Message, OutOfMemory, Record, Refusal, Row, Sink, Source, ToCborMap, WriteFault,
-    read_message, write_message,
+    read_message, set, write_message,
 };
 use std::alloc::Global;
 
@@ -23,9 +24,8 @@ pub struct Response {
     /// 0x01: the credential that was used. Authenticators of CTAP 2.0 leave it out if the allow list has
     /// exactly one element.
     pub credential: Option<CredentialDescriptor>,
-    /// 0x02: the authenticator data, kept as the bytes that came, since signatures are over them.
-    /// `AuthenticatorData::from_slice_exact` decodes them.
-    pub auth_data: Bytes,
+    /// 0x02: the authenticator data, kept as the bytes that came.
+    pub auth_data: KeptAuthenticatorData,
     /// 0x03: the signature of the authenticator data and the client data hash.
     pub signature: Bytes,
     /// 0x04: the user account of the credential. Without user verification, the authenticator MUST NOT
@@ -79,7 +79,7 @@ impl Record for Response {
     fn blank(alloc: Global) -> Response {
         Response {
             credential: None,
-            auth_data: Bytes::empty(alloc),
+            auth_data: KeptAuthenticatorData::blank(),
             signature: Bytes::empty(alloc),
             user: None,
             number_of_credentials: None,
@@ -94,7 +94,7 @@ impl Record for Response {
     fn put<S: Source>(&mut self, alloc: Global, number: u8, source: &mut S) -> Result<(), Refusal> {
         match number {
             1 => set_present(&mut self.credential, alloc, source),
-            2 => set_bytes(&mut self.auth_data, alloc, source),
+            2 => set(&mut self.auth_data, alloc, source),
             3 => set_bytes(&mut self.signature, alloc, source),
             4 => set_present(&mut self.user, alloc, source),
             5 => set_present(&mut self.number_of_credentials, alloc, source),
@@ -132,7 +132,7 @@ impl ToCborMap for Response {
 }
 
 impl Message for Response {
-    ghost cost = { 5 };
+    ghost cost = { 7 };
 
     fn read(alloc: Global, cursor: &mut Cursor<'_>) -> Result<Response, Fault> {
         read_message(alloc, cursor)

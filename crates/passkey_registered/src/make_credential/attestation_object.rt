@@ -5,10 +5,10 @@ ghost use Rattle.passkey_kinds.specs.Words.{EachFits, places_of, plain_tree};
 ghost use Rattle.passkey_registered.specs.Kept.{map_from};
 ghost use Rattle.passkey_registered.specs.make_credential.AttestationObject.{attestation_object, object_of, response_of};
 
-use crate::exact::set_bytes;
+use crate::kept_data::KeptAuthenticatorData;
 use crate::kept_map::KeptMap;
 use crate::make_credential::Response;
-use passkey_bytes::{Bytes, Text};
+use passkey_bytes::Text;
 use passkey_cbor::{Cursor, Value};
 use passkey_kinds::{
     Fault, Kept, Message, OutOfMemory, Record, Refusal, Row, Sink, Source, ToCborMap, WriteFault,
@@ -26,9 +26,8 @@ pub struct AttestationObject {
     /// `attStmt`: the attestation statement, kept undecoded: a map, or an array of compound ones (section
     /// 8.9). `AttestationStatement::from_value` decodes it.
     pub att_stmt: Kept,
-    /// `authData`: the authenticator data, kept as the bytes that came, since signatures are over them.
-    /// `AuthenticatorData::from_slice_exact` decodes them.
-    pub auth_data: Bytes,
+    /// `authData`: the authenticator data, kept as the bytes that came.
+    pub auth_data: KeptAuthenticatorData,
 }
 
 impl AttestationObject {
@@ -96,7 +95,7 @@ impl Record for AttestationObject {
         AttestationObject {
             fmt: Text::empty(alloc),
             att_stmt: Kept::new(Value::Map(Vec::new(alloc))).unwrap(),
-            auth_data: Bytes::empty(alloc),
+            auth_data: KeptAuthenticatorData::blank(),
         }
     }
 
@@ -104,7 +103,7 @@ impl Record for AttestationObject {
         match number {
             1 => set(&mut self.fmt, alloc, source),
             3 => set(&mut self.att_stmt, alloc, source),
-            2 => set_bytes(&mut self.auth_data, alloc, source),
+            2 => set(&mut self.auth_data, alloc, source),
             _ => Err(Refusal::Refused),
         }
     }
@@ -127,7 +126,7 @@ impl ToCborMap for AttestationObject {
 }
 
 impl Message for AttestationObject {
-    ghost cost = { 5 };
+    ghost cost = { 7 };
 
     fn read(alloc: Global, cursor: &mut Cursor<'_>) -> Result<AttestationObject, Fault> {
         read_message(alloc, cursor)

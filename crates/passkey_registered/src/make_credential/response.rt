@@ -4,10 +4,11 @@ ghost use Rattle.passkey_kinds.specs.Numbered.{is_shallow, numbered_fields};
 ghost use Rattle.passkey_kinds.specs.Words.{EachFits, places_of, plain_tree};
 ghost use Rattle.passkey_registered.specs.make_credential.McResponse.{mc_response};
 
-use crate::exact::{set_bytes, set_present};
+use crate::exact::set_present;
+use crate::kept_data::KeptAuthenticatorData;
 use crate::kept_map::{KeptMap, is_room_for};
 use crate::large_blob_key::LargeBlobKey;
-use passkey_bytes::{Bytes, Text};
+use passkey_bytes::Text;
 use passkey_cbor::Cursor;
 use passkey_kinds::{
     Fault, Message, OutOfMemory, Record, Refusal, Row, Sink, Source, ToCborMap, WriteFault,
@@ -21,9 +22,8 @@ use std::alloc::Global;
 pub struct Response {
     /// 0x01: the attestation statement format identifier.
     pub fmt: Text,
-    /// 0x02: the authenticator data, kept as the bytes that came, since signatures are over them.
-    /// `AuthenticatorData::from_slice_exact` decodes them.
-    pub auth_data: Bytes,
+    /// 0x02: the authenticator data, kept as the bytes that came.
+    pub auth_data: KeptAuthenticatorData,
     /// 0x03: the attestation statement, kept undecoded.
     pub att_stmt: Option<KeptMap>,
     /// 0x04: whether an enterprise attestation was returned. An absent member means false.
@@ -62,7 +62,7 @@ impl Record for Response {
     fn blank(alloc: Global) -> Response {
         Response {
             fmt: Text::empty(alloc),
-            auth_data: Bytes::empty(alloc),
+            auth_data: KeptAuthenticatorData::blank(),
             att_stmt: None,
             ep_att: None,
             large_blob_key: None,
@@ -73,7 +73,7 @@ impl Record for Response {
     fn put<S: Source>(&mut self, alloc: Global, number: u8, source: &mut S) -> Result<(), Refusal> {
         match number {
             1 => set(&mut self.fmt, alloc, source),
-            2 => set_bytes(&mut self.auth_data, alloc, source),
+            2 => set(&mut self.auth_data, alloc, source),
             3 => set_present(&mut self.att_stmt, alloc, source),
             4 => set_present(&mut self.ep_att, alloc, source),
             5 => set_present(&mut self.large_blob_key, alloc, source),
@@ -103,7 +103,7 @@ impl ToCborMap for Response {
 }
 
 impl Message for Response {
-    ghost cost = { 5 };
+    ghost cost = { 7 };
 
     fn read(alloc: Global, cursor: &mut Cursor<'_>) -> Result<Response, Fault> {
         read_message(alloc, cursor)
