@@ -369,6 +369,8 @@ MESSAGES = {
         (3, "attStmt", kept, True),
     ],
 }
+# By the standard alone the same calls come in the same order.
+MESSAGES["ctap-mc-response"] = MESSAGES["mc-response"]
 
 
 def counted(kind, message):
@@ -411,6 +413,8 @@ def parts():
     key = hostile.pairs([(b"\x01", b"\x02"), (b"\x03", b"\x26"), (b"\x20", b"\x01"), (b"\x21", hostile.chunked(2, b"abc")), (b"\x22", b"\xf5")])
     extensions = hostile.pairs([(hostile.text("credProtect"), b"\x02"), (hostile.text("hmac-secret"), b"\xf5")])
     chunked = hostile.pairs([(b"\x01", hostile.chunked(3, b"example.org")), (b"\x02", b"\x40")])
+    data = hostile.chunked(2, bytes(32) + b"\x81" + bytes(4) + extensions)
+    in_chunks = hostile.pairs([(b"\x01", hostile.text("none")), (b"\x02", data), (b"\x03", b"\xa0")])
     return [
         ("mc-response", hostile.response(key)),
         ("mc-response", hostile.response(key, extensions)),
@@ -419,6 +423,9 @@ def parts():
         ("mc-response", hostile.response(key, extensions[:-1])),
         ("mc-response", hostile.response(key, hostile.array([b"\x00"] * 5))),
         ("ga-request", chunked),
+        ("ctap-mc-response", hostile.response(key, extensions)),
+        ("ctap-mc-response", hostile.response(key, extensions[:-1])),
+        *((kind, in_chunks) for kind in ("mc-response", "ctap-mc-response")),
     ]
 
 
