@@ -7,7 +7,7 @@ use Rattle.passkey_core.specs.DataRead.{attested_at, read_data}
 use Rattle.passkey_core.specs.DataReading.{ReadsData, fixed_at}
 use Rattle.passkey_cose.specs.declared.error.CoseError.{CoseError}
 use Rattle.passkey_kinds.proofs.Around.{Around}
-use Rattle.passkey_kinds.proofs.Common.{Answers, CountsData, CursorState, Decodes, Definite, Each, IsEncodedAt, IsReadBack, Item, List, MayGrow, None, Result, Some, Spends, Within, arith, authenticator_data_nodes, byte_string, concat, depth, length, length-append, lies_size, max_depth, refl, subst, sym, ap, ℕ, ◌+◌, ◌<◌, ◌≡◌, ◌≤◌, ◌∙◌, inl, inr, option_map, true}
+use Rattle.passkey_kinds.proofs.Common.{Answers, CountsData, CursorState, Decodes, Definite, Each, IsEncodedAt, IsReadBack, Item, List, MayGrow, None, Result, Some, Spends, Within, arith, authenticator_data_nodes, byte_string, concat, depth, length, length-append, lies_size, max_depth, refl, subst, sym, ap, ℕ, ◌<◌, ◌≡◌, ◌≤◌, ◌∙◌, inl, inr, option_map, true}
 use Rattle.passkey_kinds.proofs.Steps.{on_ok}
 use Rattle.passkey_kinds.specs.Numbered.{not_null}
 use Rattle.passkey_kinds.specs.declared.fault.Refusal.{Refusal}

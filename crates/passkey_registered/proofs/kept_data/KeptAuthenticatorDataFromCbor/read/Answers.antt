@@ -1,5 +1,5 @@
-use Rattle.passkey_kinds.proofs.Steps.{Some, ap, arith, sym, ◌∙◌, err_from_is_err_and, counted_further, onward_of, on_ok, true, refl}
 use Rattle.passkey_kinds.proofs.Counting.{data_kept, rises, unless_ok}
+use Rattle.passkey_kinds.proofs.Steps.{Some, ap, arith, counted_further, err_from_is_err_and, on_ok, sym, ◌∙◌}
 use Rattle.passkey_registered.proofs.KeptValues.{data_follow, exact_is, no_data_kept}
 use Rattle.passkey_registered.proofs.kept_data.KeptAuthenticatorDataFromCbor.read.Goals as goal
 
@@ -22,5 +22,6 @@ returns-clause-further c =
 pub returns-clause-counts : goal.returns-clause-counts
 returns-clause-counts c = λ i to l ok.
     let read = c.in_ok-bytes.ensures.reads i to l in
-    data_kept i _ (exact_is i _ (read.answers ∙ ap Some (sym c.into_bytes.ensures))) (rises c.in_ok-bytes.ensures.onward) c.decoded_at.ensures.counts
+    let is = exact_is i _ (read.answers ∙ ap Some (sym c.into_bytes.ensures)) in
+    data_kept i _ is (rises c.in_ok-bytes.ensures.onward) c.decoded_at.ensures.counts
     (unless_ok c.decoded_at.result c.decoded_at.ensures.all ok)
