@@ -1,5 +1,5 @@
 -- The result of decoding the next head (RFC 8949, section 3).
-use Rattle.std.specs.Prelude.{◌≡◌, ℕ, ◌+◌, List, ◌++◌, length, Option, Some, None}
+use Rattle.std.specs.Prelude.{◌≡◌, ℕ, ◌+◌, nat_lt, List, [], ◌∷◌, ◌++◌, length, if◌then◌else◌, Option, Some, None}
 use Rattle.passkey_cbor.specs.HeadEncoding.{IsEncodingOfHead}
 use Rattle.passkey_cbor.specs.CursorState.{CursorState, ahead, raised}
 use Rattle.passkey_cbor.specs.declared.head.Head.{Head}
@@ -25,3 +25,8 @@ pub record FindsNoHead (old new : CursorState) : Type 0 where
 abbrev pub FindsHead : CursorState → CursorState → Option Head → Type 0
 FindsHead old new (Some h) = PassesHead old new h
 FindsHead old new None = FindsNoHead old new
+
+-- the unsigned integer with which the bytes begin, if it is below 24 and its head has one byte
+abbrev pub small_number : List ℕ → Option ℕ
+small_number [] = None
+small_number (b ∷ bytes) = if nat_lt b 24 then Some b else None

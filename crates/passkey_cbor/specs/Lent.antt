@@ -1,5 +1,6 @@
 -- Strings that a cursor passes and borrows: of definite length, or in chunks (RFC 8949, section 3.2.3).
-use Rattle.std.specs.Prelude.{◌≡◌, ◌≢◌, ◌↔◌, ℕ, ◌+◌, ◌<◌, ◌≤◌, List, length, take, Bool, true, false, Option, Some, None, option_map, Result, Ok, Err, IsTrue}
+use Rattle.std.specs.Prelude.{◌≡◌, ◌≢◌, ◌↔◌, ℕ, ◌+◌, ◌<◌, ◌≤◌, ◌==◌, ◌&&◌, nat_lt, List, [], ◌∷◌, length, take, Bool, true, false, Option, Some, None, option_map, Result, Ok, Err, IsTrue}
+use Rattle.std.specs.Str.{bytes_eq}
 use Rattle.passkey_cbor.specs.Item.{Item, byte_string, text_string}
 use Rattle.passkey_cbor.specs.Languages.{Is, Then}
 use Rattle.passkey_cbor.specs.LeadingItem.{IsLeadingItem}
@@ -90,6 +91,18 @@ LendsFrom is_text x to old new None = ((s : List ℕ) → x ≡ string_item is_t
 abbrev pub LendsEncoded : Bool → CursorState → CursorState → Option Region → Type 0
 LendsEncoded is_text old new found = (x : Item) (to : ℕ) → IsEncodedAt x old.bytes old.place to
     → LendsFrom is_text x to old new found
+
+-- ---- one text
+
+-- whether the bytes begin with this text string, of fewer than 24 bytes, whose head then has one byte
+abbrev pub begins_text : List ℕ → List ℕ → Bool
+begins_text s [] = false
+begins_text s (b ∷ bytes) = nat_lt (length s) 24 && (b == 96 + length s) && bytes_eq (take (length s) bytes) s
+
+-- The cursor passed the text string, or it doesn't move, and counts nothing.
+abbrev pub PassesText : List ℕ → CursorState → CursorState → Bool → Type 0
+PassesText s old new true = PassesString true old new (record { len = Some (length s); bytes = s })
+PassesText s old new false = new ≡ old
 
 -- `Some` of the string's bytes if its head has a length, and else `None`.
 abbrev pub LentWhole : Region → Option (List ℕ) → Type 0

@@ -1,8 +1,9 @@
 //! A cursor that decodes borrowed bytes head by head.
-ghost use Rattle.std.specs.Prelude.{◌≡◌, ℕ, ◌+◌, ◌<◌, ◌≤◌, drop, length, min, Some as There, None, option_map, true, false, IfNone, IfSome};
+ghost use Rattle.std.specs.Prelude.{◌≡◌, ℕ, ◌+◌, ◌<◌, ◌≤◌, drop, length, min, Some as There, None, option_map, true, false, IfNone, IfSome, MatchOption};
 ghost use Rattle.std.specs.Str.{IsAscii};
 ghost use Rattle.passkey_cbor.specs.CursorState.{ahead, raised, IsInside, IsPlaced, MovesForward};
-ghost use Rattle.passkey_cbor.specs.Found.{FindsHead};
+ghost use Rattle.passkey_cbor.specs.Found.{FindsHead, small_number};
+ghost use Rattle.passkey_cbor.specs.declared.head.Head.TheVariants.{Unsigned};
 ghost use Rattle.passkey_cbor.specs.Item.{Item};
 ghost use Rattle.passkey_cbor.specs.EncodedAt.{IsEncodedAt, Opens, WalksOn};
 ghost use Rattle.passkey_cbor.specs.HeadReading.{head_at};
@@ -138,6 +139,32 @@ impl<'a> Cursor<'a> {
         ensures moves { MovesForward self.old self.new }
     {
         self.decode()
+    }
+
+    /// Moves past the unsigned integer at the cursor and returns it, if it is below 24 with a head of
+    /// one byte. Otherwise the cursor doesn't move, and counts nothing. (RFC 8949, section 3.1, major
+    /// type 0.)
+    #[inline(always)]
+    pub fn small_number(&mut self) -> Option<u8>
+        ensures is { result ≡ small_number (ahead self.old) }
+        ensures passes { MatchOption result (self.new ≡ self.old)
+            (λ n. FindsHead self.old self.new (There (Unsigned n))) }
+
+        // If a data item is encoded at the cursor, this is its head, and the rest of the item
+        // follows.
+        ensures opens { (x : Item) (to : ℕ) → IsEncodedAt x self.old.bytes self.old.place to
+            → IfSome result (λ n. Opens x to self.new (There (Unsigned n))) }
+
+        // The counts never decrease.
+        ensures moves { MovesForward self.old self.new }
+    {
+        match small_number(&self.bytes[self.place..]) {
+            None => None,
+            Some(number) => {
+                self.pass_leaf(1);
+                Some(number)
+            }
+        }
     }
 
     /// Returns whether an array or a map has more elements, where `left` is the length in its head.
@@ -295,6 +322,18 @@ impl<'a> Cursor<'a> {
             None => None,
             Some(len) => self.piece(is_text, len),
         }
+    }
+}
+
+// The unsigned integer at the beginning of the bytes, if it is below 24 with a head of one byte.
+#[inline(always)]
+fn small_number(bytes: &[u8]) -> Option<u8>
+    ensures is { result ≡ small_number bytes.now }
+    ensures within { IfSome result (λ n. 1 ≤ length bytes.now) }
+{
+    match bytes.first() {
+        Some(first) if *first < 24 => Some(*first),
+        _ => None,
     }
 }
 

@@ -3,7 +3,7 @@ ghost use Rattle.std.specs.Prelude.{◌≡◌, ◌+◌, ◌≤◌, true, false, 
 ghost use Rattle.std.specs.Prelude.{MatchOption, None, Some as There};
 ghost use Rattle.std.specs.String.{string_bytes};
 ghost use Rattle.passkey_cbor.specs.Lent.{LendsString, PassesString, LendsEncoded, LentWhole, LooksToCopy, LooksAtAll};
-ghost use Rattle.passkey_cbor.specs.Lent.{LooksToFill, IsNamed, Copies, Fills, IsRegion, IsSized, HoldsString};
+ghost use Rattle.passkey_cbor.specs.Lent.{begins_text, PassesText, LooksToFill, IsNamed, Copies, Fills, IsRegion, IsSized, HoldsString};
 ghost use Rattle.passkey_cbor.specs.Names.{IsNameOf, LooksFor};
 ghost use Rattle.passkey_cbor.specs.Steps.{ReadsRegion, ReadsString, CountsAll};
 ghost use Rattle.passkey_cbor.specs.Reading.{is_allowed};
@@ -82,6 +82,28 @@ impl<'a> Cursor<'a> {
             }),
             None => self.other_text(),
         }
+    }
+
+    /// Moves past the text string at the cursor and returns true, if it is this text, which has fewer
+    /// than 24 bytes, with a head of one byte. Otherwise the cursor doesn't move, and counts nothing.
+    /// (RFC 8949, section 3.1, major type 3.)
+    #[inline(always)]
+    pub fn pass_text(&mut self, text: &str) -> bool
+        ensures is { result ≡ begins_text text.now (ahead self.old) }
+        ensures passes { PassesText text.now self.old self.new result }
+
+        // If a data item is encoded at the cursor and the result is true, it is this text.
+        ensures lends { result ≡ true → LendsEncoded true self.old self.new
+            (There (record { len = There (length text.now); bytes = text.now })) }
+
+        // The counts never decrease.
+        ensures moves { MovesForward self.old self.new }
+    {
+        let is_there = begins_text(&self.bytes[self.place..], text);
+        if is_there {
+            self.pass_leaf(1 + text.len());
+        }
+        is_there
     }
 
     /// Moves past the byte string at the cursor and returns it, borrowed. Returns `None`, and the
@@ -208,6 +230,25 @@ impl<'a> Cursor<'a> {
             return None;
         };
         Some((&bytes[start..self.place], size))
+    }
+}
+
+// Whether the bytes begin with this text string, with a head of one byte.
+#[inline(always)]
+fn begins_text(bytes: &[u8], text: &str) -> bool
+    ensures is { result ≡ begins_text text.now bytes.now }
+    ensures within { result ≡ true → 1 + length text.now ≤ length bytes.now }
+    ensures there { result ≡ true → take (length text.now) (drop 1 bytes.now) ≡ text.now }
+{
+    let name = text.as_bytes();
+    match bytes.split_first() {
+        None => false,
+        Some((initial, rest)) => {
+            name.len() < 24
+                && usize::from(*initial) == 0x60 + name.len()
+                && rest.len() >= name.len()
+                && &rest[..name.len()] == name
+        }
     }
 }
 

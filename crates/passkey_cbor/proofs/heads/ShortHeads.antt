@@ -1,14 +1,15 @@
 -- Heads of one byte.
 use Rattle.std.proofs.Common.{◌≡◌, ℕ, suc, ◌+◌, ◌-◌, ◌*◌, ◌/◌, ◌%◌, ◌<◌, ◌≤◌, Bool, true, false, List, [], ◌∷◌, drop, length, get_or, add-one, Option, Some, None, refl, sym, ap, ◌∙◌, arith}
-use Rattle.std.specs.Prelude.{IfSome}
+use Rattle.std.specs.Prelude.{IfSome, if◌then◌else◌, nat_lt}
 use Rattle.std.proofs.Math.Seq.{drop-cons}
-use Rattle.std.proofs.lemmas.Bool.{lt-ltb, ne_eqb}
+use Rattle.std.proofs.lemmas.Bool.{lt-ltb, ltb-true, ne_eqb}
 use Rattle.passkey_cbor.specs.Heads.{Heads, following, one}
 use Rattle.passkey_cbor.specs.HeadReading.{◌>>=◌, argument_at, with_argument, simple_at, head_after, head_at}
+use Rattle.passkey_cbor.specs.Found.{small_number}
 use Rattle.passkey_cbor.specs.Lent.{string_head}
 use Rattle.passkey_cbor.specs.declared.head.Head.{Head}
 use Rattle.passkey_cbor.specs.declared.head.Head.TheVariants as head
-use Rattle.passkey_cbor.proofs.items.Binds.{none_is_some}
+use Rattle.passkey_cbor.proofs.items.Binds.{some_is, none_is_some}
 use Rattle.passkey_cbor.proofs.heads.HeadAgain.{heads_again}
 
 short_argument : (b : ℕ) (rest : List ℕ) → b % 32 < 24 → b / 32 < 7
@@ -32,6 +33,21 @@ pub short_other : (b : ℕ) (o : Option Head) → b < 256 → b % 32 < 24 → (b
 short_other b None byte lt not_7 e = tt
 short_other b (Some h) byte lt not_7 e = λ rest.
     short_argument b rest lt (omega (arith, not_7)) ∙ ap (λ (o : Option Head). o >>= λ g. Some (g, rest)) (sym e)
+
+chosen : (p : Bool) (b n : ℕ) → (if p then Some b else None) ≡ Some n → (p ≡ true) × (b ≡ n)
+chosen true b n e = (refl, some_is b n e)
+chosen false b n e = absurd (none_is_some n e)
+
+-- a number below 24
+pub small_head : (bytes : List ℕ) (n : ℕ) → small_number bytes ≡ Some n
+    → head_at bytes ≡ Some (head.Unsigned n, drop 1 bytes)
+small_head [] n e = absurd (none_is_some n e)
+small_head (b ∷ rest) n e =
+    let is = chosen (nat_lt b 24) b n e in
+    let less : b < 24 = ltb-true b 24 is.0 in
+    let major : b / 32 ≡ 0 = omega (arith, less) in
+    let info : b % 32 ≡ n = omega (arith, less, is.1) in
+    short_argument b rest (omega (arith, info, is.1, less)) (omega (arith, major)) ∙ rw (major, info) refl
 
 small_major : (m n : ℕ) (h : Head) → with_argument m n ≡ Some h → m < 7
 small_major (suc (suc (suc (suc (suc (suc (suc m))))))) n h e = absurd (none_is_some h e)

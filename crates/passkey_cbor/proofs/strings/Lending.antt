@@ -1,6 +1,8 @@
 -- Strings that a cursor passes and borrows.
-use Rattle.std.proofs.Common.{◌≡◌, ℕ, ◌+◌, ◌-◌, ◌<◌, ◌≤◌, Bool, true, false, List, ◌++◌, length, take, drop, suc, Option, Some, None, option_map, is_some, refl, sym, ap, subst, ◌∙◌, append_assoc, arith}
+use Rattle.std.proofs.Common.{◌≡◌, ℕ, ◌+◌, ◌-◌, ◌<◌, ◌≤◌, ◌==◌, ◌&&◌, nat_lt, Bool, true, false, List, [], ◌∷◌, ◌++◌, length, take, drop, suc, Option, Some, None, option_map, is_some, refl, sym, ap, subst, ◌∙◌, append_assoc, arith}
 use Rattle.std.proofs.lemmas.List.{length-append, length-drop, length-take, drop-drop, take-append-drop, take_at}
+use Rattle.std.proofs.lemmas.Bool.{eqb-true, ltb-true}
+use Rattle.std.specs.Str.{bytes_eq}
 use Rattle.passkey_cbor.specs.Bytes.{IsBytes}
 use Rattle.passkey_cbor.specs.Item.{Item}
 use Rattle.passkey_cbor.specs.Depth.{depth}
@@ -18,7 +20,7 @@ use Rattle.std.specs.Prelude.{unwrap_or}
 use Rattle.passkey_cbor.specs.Leaf.{Headed}
 use Rattle.passkey_cbor.specs.Steps.{IsHead, NoHead, HeadRead, PieceRead, PassesOver, RegionRead, NoStringRead, ReadsString, IsLengthOf}
 use Rattle.passkey_cbor.specs.Found.{PassesHead}
-use Rattle.passkey_cbor.specs.Lent.{Region, string_item, string_head, PassesString, LendsString, LendsEncoded, IsSized}
+use Rattle.passkey_cbor.specs.Lent.{Region, string_item, string_head, begins_text, PassesString, LendsString, LendsEncoded, IsSized}
 use Rattle.passkey_cbor.specs.declared.head.Head.{Head}
 use Rattle.passkey_cbor.specs.declared.head.Head.TheVariants as head
 use Rattle.passkey_cbor.proofs.items.Binds.{some_is, none_is_some, bind_at, bind_none}
@@ -26,10 +28,11 @@ use Rattle.passkey_cbor.proofs.strings.Strings.{starts, encodes_string_head, str
 use Rattle.passkey_cbor.proofs.items.EncodedFrom.{stands_front, only_one}
 use Rattle.passkey_cbor.proofs.items.LeadingItems.{front_again}
 use Rattle.passkey_cbor.proofs.skipping.After.{by_string, string_piece}
-use Rattle.passkey_cbor.proofs.items.Leaves.{piece_there}
+use Rattle.passkey_cbor.proofs.items.Leaves.{piece_there, headed_one}
 use Rattle.passkey_cbor.proofs.heads.Numbers.{IsBytes-drop}
 use Rattle.passkey_cbor.proofs.skipping.Walks.{head_passed}
 use Rattle.passkey_cbor.proofs.heads.HeadAgain.{head_again}
+use Rattle.passkey_cbor.proofs.heads.ShortHeads.{string_in_initial}
 use Rattle.passkey_cbor.proofs.heads.HeadCounts.{spans_as, spans_headed, spans_piece, heads_passed}
 use Rattle.passkey_cbor.proofs.heads.HeadsDecoded.{decoded_then, started}
 use Rattle.passkey_cbor.proofs.skipping.Skipping.{stopped_then}
@@ -236,6 +239,35 @@ short_read is_text k n a c content placed some headed within whole allowed to ri
     subst (λ (m : ℕ). PassesString is_text a c (record { len = Some m; bytes = content })) (sym size)
     (string_read is_text (Some n) a b c h content placed.within (IsBytes-drop a.place a.bytes placed.fits)
     (head_passed a b placed refl h first) (omega (arith, some)) (string_len_of is_text n) region)
+
+-- ---- one text
+
+all_three : (p q r : Bool) → (p && q && r) ≡ true → (p ≡ true) × (q ≡ true)
+all_three true true r e = (refl, refl)
+all_three true false r e = absurd cc
+all_three false q r e = absurd cc
+
+-- the head of a text that the bytes begin with
+text_headed : (s bytes : List ℕ) → begins_text s bytes ≡ true
+    → Headed bytes 1 (head.Text (Some (length s))) (drop 1 bytes)
+text_headed s [] e = absurd cc
+text_headed s (b ∷ rest) e =
+    let both = all_three (nat_lt (length s) 24) (b == 96 + length s) (bytes_eq (take (length s) rest) s) e in
+    let few : length s < 24 = ltb-true (length s) 24 both.0 in
+    let first : b ≡ 96 + length s = eqb-true b (96 + length s) both.1 in
+    headed_one (b ∷ rest) b rest (head.Text (Some (length s))) refl
+    (string_in_initial true 96 b rest refl (omega (arith, first)) (omega (arith, first, few))
+    ∙ ap (λ (n : ℕ). Some (head.Text (Some n), rest)) (omega (arith, first)))
+
+pub text_passed : (s : List ℕ) (a c : CursorState) → IsPlaced a.bytes a.place → begins_text s (ahead a) ≡ true
+    → 1 + length s ≤ length (ahead a) → take (length s) (drop 1 (ahead a)) ≡ s → is_allowed true s ≡ true
+    → c ≡ record a { place = a.place + (1 + length s); heads = raised a.heads 1 } → a.heads ≤ c.heads
+    → PassesString true a c (record { len = Some (length s); bytes = s })
+text_passed s a c placed is within there allowed to rises =
+    let after : drop 1 (ahead a) ≡ drop (a.place + 1) a.bytes = drop-drop 1 a.place a.bytes in
+    short_read true 1 (length s) a c s placed (omega arith) (text_headed s (ahead a) is)
+    (omega (arith, within, ap length after, length-drop 1 (ahead a)))
+    (sym there ∙ ap (take (length s)) after) allowed to rises
 
 -- ---- no string was passed
 
