@@ -1,6 +1,11 @@
 -- The rows that names and map keys name.
 use Rattle.passkey_kinds.proofs.Common.{named_as, IsEncodedAt, CursorState, LooksOnce, Spends, Further, Onward, sym, nat_tests, find, bytes_eq, ◌≡◌, ◌∙◌, ◌<◌, ◌==◌, ℕ, arith, zero, suc, Bool, true, ◌+◌, List, [], ◌∷◌, ◌++◌, length, map, take, drop, set, get_or, Bor, add-one, Option, Some, None, cond, nat_lt, slice_get, refl, ap, cases_lt, eqb-true, length-map, map_push, take_more_set, Item, scalar_in, naming_of, IfSome, entry_of, Row, Entry, row, wrong, row_or_unknown, names, position, position_or_len, take-suc, slice_get_past, row_at, row_named, both_names, append_assoc, length-append, option_or}
-use Rattle.std.specs.Prelude.{IfNone}
+use Rattle.std.specs.Prelude.{IfNone, pos}
+use Rattle.std.proofs.lemmas.Slice.Eq.{bytes_eq-Decides}
+use Rattle.std.proofs.Math.Seq.{drop-cons}
+use Rattle.passkey_cbor.specs.Found.{small_number}
+use Rattle.passkey_cbor.specs.Lent.{begins_text}
+use Rattle.passkey_webauthn.specs.Names.{Names, row_of, value_in}
 use Rattle.passkey_kinds.specs.RecordReading.{ReadsKey, FindsRow, LooksTwice}
 use Rattle.passkey_kinds.proofs.Lent.{missed_spends}
 use Rattle.passkey_kinds.proofs.Cursor.{further_from, stands_back}
@@ -132,3 +137,69 @@ pub further_some : (a b d : CursorState) (found : Option Named) → Onward a b �
     → IfSome found (λ n. Further b d) → IfSome found (λ n. Further a d)
 further_some a b d None on at h = tt
 further_some a b d (Some n) on at h = further_from a b d on at h
+
+-- ---- a name that the bytes begin with
+
+begins_both : (bytes n m : List ℕ) → bytes_eq n m ≡ true → begins_text m bytes ≡ true → begins_text n bytes ≡ true
+begins_both bytes n m same begins =
+    ap (λ (t : List ℕ). begins_text t bytes) ((bytes_eq-Decides n m).0 same) ∙ begins
+
+-- the first of these names that the bytes begin with is the first that is this name
+first_begun : {A : Type 0} (f : A → List ℕ) (bytes : List ℕ) (xs : List A) (x : A)
+    → find (λ y. begins_text (f y) bytes) xs ≡ Some x → begins_text (f x) bytes ≡ true
+    → find (λ y. bytes_eq (f y) (f x)) xs ≡ Some x
+first_begun f bytes [] x found begins = absurd cc
+first_begun f bytes (y ∷ xs) x found begins =
+    grind (arith, begins_both bytes (f y) (f x), (bytes_eq-Decides (f x) (f x)).1 refl, first_begun f bytes xs x)
+
+pub begun_row : (bytes : List ℕ) (es : List Entry) (e : Entry)
+    → find (λ (d : Entry). begins_text d.name bytes) es ≡ Some e → begins_text e.name bytes ≡ true
+    → row e.number ≡ row_named es e.name
+begun_row bytes es e found begins = rw (first_begun (λ (d : Entry). d.name) bytes es e found begins) refl
+
+-- the next of the rows, if no earlier one's name is what the bytes begin with
+pub row_begins : (bytes : List ℕ) (rows : List Row) (i : ℕ) (d : Row) → i < length rows
+    → find (λ (e : Entry). begins_text e.name bytes) (map entry_of (drop i rows))
+    ≡ find (λ (e : Entry). begins_text e.name bytes) (map entry_of rows)
+    → begins_text (entry_of (get_or rows i d)).name bytes ≡ true
+    → row (entry_of (get_or rows i d)).number ≡ row_named (map entry_of rows) (entry_of (get_or rows i d)).name
+row_begins bytes rows i d less first begins =
+    let e : Entry = entry_of (get_or rows i d) in
+    let next : drop i rows ≡ get_or rows i d ∷ drop (suc i) rows = rw (drop-cons rows i d) refl in
+    let found : find (λ (e : Entry). begins_text e.name bytes) (e ∷ map entry_of (drop (suc i) rows)) ≡ Some e =
+    rw begins refl in
+    begun_row bytes (map entry_of rows) e (sym first
+    ∙ ap (λ (rs : List Row). find (λ (e : Entry). begins_text e.name bytes) (map entry_of rs)) next ∙ found) begins
+
+-- ---- a number that the bytes begin with
+
+pub small_named : (n : ℕ) (es : List Entry) → n < 256
+    → row_or_unknown (find (λ (e : Entry). e.number == n) es) ≡ names true es (item.number (pos n))
+small_named n es less = grind (arith, cases_lt, nat_tests)
+
+pub small_less : (n : ℕ) (bytes : List ℕ) → Some n ≡ small_number bytes → n < 256
+small_less n [] e = absurd cc
+small_less n (b ∷ bytes) e = grind (arith, cases_lt, nat_tests)
+
+pub number_is_no_null : (n : ℕ) → item.number (pos n) ≡ item.null → ⊥
+number_is_no_null n e = cc
+
+-- ---- a value's name that the bytes begin with
+
+value_found : {T : Type 0} (s : List ℕ) (ns : Names T) (n : List ℕ × T) → find (λ m. bytes_eq m.0 s) ns ≡ Some n
+    → value_in ns s ≡ Some n.1
+value_found s [] n e = absurd cc
+value_found s (m ∷ ns) n e = grind (arith, value_found s ns n)
+
+pub value_begins : {T : Type 0} (bytes : List ℕ) (rows : List (Bor (List ℕ) × T)) (i : ℕ) (r : Bor (List ℕ) × T)
+    → i < length rows → r ≡ get_or rows i r
+    → find (λ (n : List ℕ × T). begins_text n.0 bytes) (map row_of (drop i rows))
+    ≡ find (λ (n : List ℕ × T). begins_text n.0 bytes) (map row_of rows)
+    → begins_text r.0.now bytes ≡ true → value_in (map row_of rows) r.0.now ≡ Some r.1
+value_begins {T} bytes rows i r less is first begins =
+    let next : drop i rows ≡ r ∷ drop (suc i) rows = rw (drop-cons rows i r, ← is) refl in
+    let found : find (λ (n : List ℕ × T). begins_text n.0 bytes) (row_of r ∷ map row_of (drop (suc i) rows)) ≡ Some (row_of r) =
+    rw begins refl in
+    value_found r.0.now (map row_of rows) (row_of r) (first_begun (λ (n : List ℕ × T). n.0) bytes (map row_of rows) (row_of r)
+    (sym first ∙ ap (λ (rs : List (Bor (List ℕ) × T)). find (λ (n : List ℕ × T). begins_text n.0 bytes) (map row_of rs)) next
+    ∙ found) begins)

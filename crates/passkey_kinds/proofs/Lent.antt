@@ -135,6 +135,12 @@ whole_is is_text (Some n) bytes t s e c = grind arith
 pub lent_is : (is_text : Bool) (r : Region) (t s : List ℕ) → LentWhole r (Some t) → HoldsString is_text r s → t ≡ s
 lent_is is_text r t s e tells = whole_is is_text r.len r.bytes t s e tells
 
+-- a text that was passed is the item there
+pub text_there : (s : List ℕ) {a b : CursorState} (i : Item) {to : ℕ}
+    → LendsFrom true i to a b (Some (record { len = Some (length s); bytes = s })) → i ≡ text_string s
+text_there s i f = f.1.0 ∙ ap text_string
+    (sym (lent_is true (record { len = Some (length s); bytes = s }) s f.0 refl f.1.1.tells))
+
 module _ (a b d : CursorState) (r : Region) where
   pub looked_further : (is_text : Bool) → PassesString is_text a b r → LooksAtMost r b d → Further a d
   looked_further is_text p looks = further_then a b d (string_further is_text a b r p)

@@ -5,7 +5,7 @@ ghost use Rattle.passkey_kinds.specs.Words.{HoldsString, IsEncodedAt, Onward, Fu
 ghost use Rattle.passkey_kinds.specs.Words.{entry_of, names, row_named, ReadsKey, row_at, scalar_of};
 
 use crate::head::read_scalar;
-use crate::rows::{Named, Row, of_number, with_name};
+use crate::rows::{Named, Row, of_number, with_name, with_number};
 use passkey_cbor::{BytesToken, Cursor, Head, TextToken};
 
 /// Returns the names of at most 64 rows, then their other names, followed by empty names.
@@ -111,6 +111,23 @@ fn read_number(rows: &[Row], cursor: &mut Cursor<'_>) -> Option<Named>
     ensures onward { Onward cursor.old cursor.new }
     ensures further { IfSome result (λ _. Further cursor.old cursor.new) }
 {
+    match cursor.small_number() {
+        Some(number) => Some(with_number(rows, number)),
+        None => read_other_number(rows, cursor),
+    }
+}
+
+// The same for any number. Not inlined, since most are below 24.
+#[inline(never)]
+fn read_other_number(rows: &[Row], cursor: &mut Cursor<'_>) -> Option<Named>
+    ensures finds { (key : Item) (to : ℕ) → IsEncodedAt key cursor.old.bytes cursor.old.place to
+        → FindsRow (names true (map entry_of rows.now) key) 1 to cursor.old cursor.new result }
+    ensures other { (key : Item) (to : ℕ) → IsEncodedAt key cursor.old.bytes cursor.old.place to
+        → IfNone result (names true (map entry_of rows.now) (scalar_in key) ≡ wrong) }
+    ensures misses { IfNone result (LooksOnce cursor.old cursor.new) }
+    ensures onward { Onward cursor.old cursor.new }
+    ensures further { IfSome result (λ _. Further cursor.old cursor.new) }
+{
     let start = cursor.place();
     match of_head(true, rows, cursor.head()) {
         Some(key) => Some(key),
@@ -121,9 +138,47 @@ fn read_number(rows: &[Row], cursor: &mut Cursor<'_>) -> Option<Named>
     }
 }
 
+/// Passes the map key at the cursor if it is a row's own name, a text string of fewer than 24 bytes
+/// with a head of one byte, and returns what it names. Otherwise does nothing.
+fn pass_name(rows: &[Row], cursor: &mut Cursor<'_>) -> Option<Named>
+    ensures finds { (is_numbered : Bool) (key : Item) (to : ℕ) → IsEncodedAt key cursor.old.bytes cursor.old.place to
+        → FindsRow (names is_numbered (map entry_of rows.now) key) 2 to cursor.old cursor.new result }
+    ensures stays { IfNone result (cursor.new ≡ cursor.old) }
+    ensures onward { Onward cursor.old cursor.new }
+    ensures further { IfSome result (λ _. Further cursor.old cursor.new) }
+{
+    for row in rows {
+        if cursor.pass_text(row.name()) {
+            return Some(Named::Row(row.number()));
+        }
+    }
+    None
+}
+
 /// Decodes the map key at the cursor if it is a text string or a byte string, moves past it and
 /// returns what it names. Returns `None` for any other key; then the cursor doesn't move.
 fn read_name(rows: &[Row], cursor: &mut Cursor<'_>) -> Option<Named>
+    requires { length rows.now ≤ 64 }
+    ensures finds { (is_numbered : Bool) (key : Item) (to : ℕ) → IsEncodedAt key cursor.old.bytes cursor.old.place to
+        → FindsRow (names is_numbered (map entry_of rows.now) key) 2 to cursor.old cursor.new result }
+    ensures other { (is_numbered : Bool) (key : Item) (to : ℕ) → IsEncodedAt key cursor.old.bytes cursor.old.place to
+        → IfNone result (names is_numbered (map entry_of rows.now) key
+        ≡ names is_numbered (map entry_of rows.now) (scalar_in key)) }
+    ensures misses { (key : Item) (to : ℕ) → IsEncodedAt key cursor.old.bytes cursor.old.place to
+        → IfNone result (LooksTwice cursor.old cursor.new) }
+    ensures stays { IfNone result (cursor.new.place ≡ cursor.old.place) }
+    ensures onward { Onward cursor.old cursor.new }
+    ensures further { IfSome result (λ _. Further cursor.old cursor.new) }
+{
+    match pass_name(rows, cursor) {
+        Some(key) => Some(key),
+        None => read_other_name(rows, cursor),
+    }
+}
+
+// The same for any string. Not inlined, since most keys are a row's own name.
+#[inline(never)]
+fn read_other_name(rows: &[Row], cursor: &mut Cursor<'_>) -> Option<Named>
     requires { length rows.now ≤ 64 }
     ensures finds { (is_numbered : Bool) (key : Item) (to : ℕ) → IsEncodedAt key cursor.old.bytes cursor.old.place to
         → FindsRow (names is_numbered (map entry_of rows.now) key) 2 to cursor.old cursor.new result }

@@ -1,5 +1,5 @@
 //! Names of enumerations, decoded from data items.
-ghost use Rattle.std.specs.Prelude.{◌≡◌, ◌≤◌, ℕ, List, length, map, take, true, OnOk};
+ghost use Rattle.std.specs.Prelude.{◌≡◌, ◌≤◌, ℕ, List, length, map, take, true, IfNone, IfSome, Ok, OnOk};
 ghost use Rattle.passkey_kinds.specs.Words.{Item, IsRegion, HoldsString, IsEncodedAt, Onward, Further, ReadsAs, LooksAtMost};
 ghost use Rattle.passkey_kinds.specs.Words.{item_of, Answers, one_named, credential_type_named, transport_named};
 ghost use Rattle.passkey_webauthn.specs.Names.{row_of, texts, value_at, value_in};
@@ -60,7 +60,40 @@ fn named<T: EnumNames>(token: &TextToken<'_>, cursor: &mut Cursor<'_>) -> Option
     }
 }
 
+/// Passes the text string at the cursor if it is a value's name of fewer than 24 bytes with a head
+/// of one byte, and returns the value. Otherwise does nothing.
+fn pass_named<T: EnumNames>(cursor: &mut Cursor<'_>) -> Option<T>
+    ensures reads { (i : Item) (to : ℕ) → IsEncodedAt i cursor.old.bytes cursor.old.place to
+        → IfSome result (λ v. ReadsAs (λ x. x) (one_named (value_in T.table)) i to cursor.old cursor.new (Ok v)) }
+    ensures stays { IfNone result (cursor.new ≡ cursor.old) }
+    ensures onward { Onward cursor.old cursor.new }
+    ensures further { IfSome result (λ _. Further cursor.old cursor.new) }
+{
+    let table = T::table();
+    for row in table {
+        if cursor.pass_text(row.0) {
+            return Some(row.1);
+        }
+    }
+    None
+}
+
 fn read_named<T: EnumNames>(cursor: &mut Cursor<'_>) -> Result<T, Refusal>
+    requires { length T.table ≤ 16 }
+    ensures reads { (i : Item) (to : ℕ) → IsEncodedAt i cursor.old.bytes cursor.old.place to
+        → ReadsAs (λ x. x) (one_named (value_in T.table)) i to cursor.old cursor.new result }
+    ensures onward { Onward cursor.old cursor.new }
+    ensures further { OnOk result (Further cursor.old cursor.new) }
+{
+    match pass_named(cursor) {
+        Some(value) => Ok(value),
+        None => read_other_named(cursor),
+    }
+}
+
+// The same for any text string. Not inlined, since most are a value's name.
+#[inline(never)]
+fn read_other_named<T: EnumNames>(cursor: &mut Cursor<'_>) -> Result<T, Refusal>
     requires { length T.table ≤ 16 }
     ensures reads { (i : Item) (to : ℕ) → IsEncodedAt i cursor.old.bytes cursor.old.place to
         → ReadsAs (λ x. x) (one_named (value_in T.table)) i to cursor.old cursor.new result }

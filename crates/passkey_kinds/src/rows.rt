@@ -81,7 +81,7 @@ fn numbered(rows: &[Row], number: u8) -> Named
 
 /// Finds the row with this number. Tables are in the order of their numbers, which begin with 1 and
 /// leave few out, so a row is rarely far before the index that is its number.
-fn with_number(rows: &[Row], number: u8) -> Named
+pub(crate) fn with_number(rows: &[Row], number: u8) -> Named
     ensures { named_as result ≡ row_or_unknown (find (λ e. e.number == number) (map entry_of rows.now)) }
 {
     match rows.get(usize::from(number).saturating_sub(1)) {

@@ -1,5 +1,5 @@
 use Rattle.passkey_kinds.proofs.Steps.{◌∙◌, map, sym, ap, arith, true, false, entry_of, names, names_other, lent_spends, lent_less, stands_missed, further_from, looked_further, onward_of}
-use Rattle.passkey_kinds.proofs.key.read_name.Goals as goal
+use Rattle.passkey_kinds.proofs.key.read_other_name.Goals as goal
 
 pub returns-in-Some-clause-finds : goal.returns-in-Some-clause-finds
 returns-in-Some-clause-finds c = λ b key to l.

@@ -1,5 +1,5 @@
 use Rattle.passkey_kinds.proofs.Steps.{◌∙◌, map, sym, ap, true, refl, entry_of, names, scalar_read, scalar_moves, names_found, not_wrong}
-use Rattle.passkey_kinds.proofs.key.read_number.Goals as goal
+use Rattle.passkey_kinds.proofs.key.read_other_number.Goals as goal
 
 pub returns-in-Some-clause-finds : goal.returns-in-Some-clause-finds
 returns-in-Some-clause-finds c = λ key to l.

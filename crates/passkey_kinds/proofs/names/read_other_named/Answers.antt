@@ -1,5 +1,5 @@
 use Rattle.passkey_kinds.proofs.Steps.{on_ok, looked_further, true, rules, false, sym, arith, name_from, named_text, no_text, lent_decodes, not_lent_decodes, or_refused}
-use Rattle.passkey_kinds.proofs.names.read_named.Goals as goal
+use Rattle.passkey_kinds.proofs.names.read_other_named.Goals as goal
 use Rattle.passkey_webauthn.specs.Names.{value_in}
 
 pub returns-in-Some-clause-reads : goal.returns-in-Some-clause-reads
