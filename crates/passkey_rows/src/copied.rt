@@ -126,7 +126,8 @@ impl Copied for registered::make_credential::AttestationObject {
 
 impl Copied for registered::get_assertion::Response {
     fn replace_parts(&mut self, alloc: Global, tries: &mut Tries) -> Result<(), OutOfMemory> {
-        tries.replace_some(alloc, &mut self.unsigned_extension_outputs)
+        tries.replace_some(alloc, &mut self.unsigned_extension_outputs)?;
+        tries.replace_some(alloc, &mut self.att_stmt)
     }
 }
 
