@@ -94,7 +94,8 @@ encoded_as_input once law one item bytes text encoding n s e =
         front = s.front;
         len = n;
         begins = s.begins;
-        rewritten = r.rewritten ∙ ap written (sym (is_front once law item _ bytes text e.input n s e.stands r.front r.len r.begins));
+        rewritten = r.rewritten
+            ∙ ap written (sym (is_front once law item _ bytes text e.input n s e.stands r.front r.len r.begins));
       },
       (s.front, s.begins),
     )

@@ -64,7 +64,8 @@ by_row no_rows n u j = λ e. absurd cc
 by_row (shape.row e a s rs) n u j = elim (e.number == n)
     as (λ b. (if b then Some (record { accepts = a; shape = s }) else row_in rs n) ≡ Some u
     → (if b then json_item s j else row_item rs n j) ≡ json_item u.shape j) [
-      | true ↦ λ h. (let same : record { accepts = a; shape = s } ≡ u = some_same h in ap (λ (t : Tested). json_item t.shape j) same)
+      | true ↦ λ h. (let same : record { accepts = a; shape = s } ≡ u = some_same h in
+          ap (λ (t : Tested). json_item t.shape j) same)
       | false ↦ by_row rs n u j
     ]
 

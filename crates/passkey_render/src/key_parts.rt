@@ -95,8 +95,8 @@ fn members(alloc: Global, all: &[(&str, Json<'_>)]) -> Result<Vec<(Value, Value)
 }
 
 /// Returns the data item that the JSON value is where a COSE key is wanted: an object as a map, whose members
-/// are put in CTAP2's order and named after the parameters of keys, such as `kty`, `crv` and `x`, with key types, curves and algorithms
-/// by their names or numbers, and byte strings in base64url; and all else as
+/// are put in CTAP2's order and named after the parameters of keys, such as `kty`, `crv` and `x`, with key
+/// types, curves and algorithms by their names or numbers, and byte strings in base64url; and all else as
 /// `passkey_cbor_text::values::item_from_json` has it, escapes too. Whether the item is a key isn't said. The
 /// errors are those of that call, with where in the JSON it is (RFC 9052, section 7).
 pub fn key_item_from_json(alloc: Global, json: &Json<'_>) -> Result<Value, ItemFault>

@@ -8,8 +8,8 @@ use Rattle.passkey_render.proofs.data_parts.bytes_named.Goals as goal
 pub returns-then-eq : goal.returns-then-eq
 returns-then-eq c =
     let x = c.loop-own-item in
-    ap (λ (s : List ℕ). Some s) c.as_slice.ensures.value ∙ name_found c.args.name.now _ _ _ _ (mapped_at part_in c.args.parts.now _ x.result x.is c.loop-own-test.true)
-    c.loop-own.invariant
+    let at = mapped_at part_in c.args.parts.now _ x.result x.is c.loop-own-test.true in
+    ap (λ (s : List ℕ). Some s) c.as_slice.ensures.value ∙ name_found c.args.name.now _ _ _ _ at c.loop-own.invariant
     (ap (λ (s : List ℕ). bytes_eq s c.args.name.now) (sym c.as_str.ensures.value) ∙ sym c.eq.ensures ∙ c.if-eq.true)
 
 pub loop-own-preserved : goal.loop-own-preserved
