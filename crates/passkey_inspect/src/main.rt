@@ -21,16 +21,27 @@ mod undecoded;
 mod values;
 
 use fault::InspectFault;
+use hex::FromHexError;
 use kinds::all_kinds_text;
 use line_by_line::answer_lines;
 use nearest::{no_file, no_kind};
 use options::{HELP, Options, VERSION, options_of};
+use passkey_memory::OutOfMemory;
 use passkey_rewrite::{RunFault, read_all, read_words, write_all};
 use std::alloc::Global;
 use std::fs;
 use std::io::{ErrorKind, Read, Write};
 use std::process::ExitCode;
 use std::rt::{Env, Files};
+
+/// Returns the bytes that a line spells in hexadecimal; of one that spells none the line's own.
+fn raw_bytes(alloc: Global, line: &str) -> Result<Vec<u8>, OutOfMemory> {
+    match hex::decode(alloc, line.trim_end()) {
+        Ok(bytes) => Ok(bytes),
+        Err(FromHexError::OutOfMemory) => Err(OutOfMemory),
+        Err(_) => Ok(Vec::from_slice(alloc, line.as_bytes())?),
+    }
+}
 
 /// Prints what is in the input, or in each of its lines.
 fn print<R: AllocGlobal>(
@@ -47,6 +58,10 @@ fn print<R: AllocGlobal>(
     }
     let input = read_all(rt.alloc(), reader)?;
     match inspect::inspect(rt.alloc(), options, input.as_slice()) {
+        Ok(line) if options.raw => {
+            let bytes = raw_bytes(rt.alloc(), line.as_str())?;
+            Ok(write_all(writer, bytes.as_slice())?)
+        }
         Ok(text) => Ok(write_all(writer, text.as_bytes())?),
         Err(fault) => {
             write_all(writer, fault.output().as_bytes())?;

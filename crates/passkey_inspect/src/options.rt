@@ -18,6 +18,7 @@ xxd and hexdump -C dump it), base64, base64url, JSON and raw bytes.
   --html        a page: members beside their bytes      passkey_inspect --html FILE >page.html
   --values      exact JSON, which --encode takes        passkey_inspect --values info FILE
   --encode      such JSON encoded, in hexadecimal       passkey_inspect --encode info FILE
+  --raw         with --cbor or --encode: the bytes      passkey_inspect --encode --raw info FILE >info
   --strict      refuse what isn't canonical CBOR        passkey_inspect --strict info FILE
   --lines       one input a line, one answer a line; with one of --json, --cbor, --values, --encode
   --from FORM   hex, base64, raw or json                passkey_inspect --from raw auth FILE
@@ -25,8 +26,8 @@ xxd and hexdump -C dump it), base64, base64url, JSON and raw bytes.
   -h, --help    this text
   --version     the version
 
-Of JSON a report is printed, or with --json the record in a line; the others are for bytes, but
---encode, which takes JSON alone.
+Of JSON a report is printed, or with --json and --values the record in a line; the others are for
+bytes, but --encode, which takes JSON alone.
 
 Without a KIND it is found, and a leading command byte or status byte 00 is taken off. A KIND that
 is named takes all of the bytes; auth is authenticator data, cbor any data item, and mc-response
@@ -88,6 +89,11 @@ impl Output {
         }
     }
 
+    /// Returns whether it is an encoding.
+    fn is_an_encoding(self) -> bool {
+        self == Output::Encoding || self == Output::FromValues
+    }
+
     /// Returns the option that asks for it; of a report, which none asks for, no text.
     pub fn option(self) -> &'static str {
         match self {
@@ -121,6 +127,8 @@ pub struct Options<'a> {
     pub lines: bool,
     /// Whether a data item has to be in CTAP2's canonical form.
     pub strict: bool,
+    /// Whether an encoding is printed as it is, and not in hexadecimal.
+    pub raw: bool,
     /// Whether help is printed instead.
     pub help: bool,
     /// Whether the version is printed instead.
@@ -152,6 +160,7 @@ fn set_option(options: &mut Options<'_>, word: &str) -> bool {
         "--encode" => options.output = Output::FromValues,
         "--lines" => options.lines = true,
         "--strict" => options.strict = true,
+        "--raw" => options.raw = true,
         "-h" | "--help" => options.help = true,
         "--version" => options.version = true,
         "--kinds" => options.kinds = true,
@@ -181,10 +190,13 @@ fn set_operand<'a>(options: &mut Options<'a>, word: &'a str) -> bool {
 }
 
 /// Has each line answered as JSON, if lines are answered and nothing else was asked for. Returns whether
-/// what is asked for has a line.
+/// what is asked for has a line, or is an encoding if that is to be printed as it is.
 fn set_lines(options: &mut Options<'_>) -> bool {
     if options.lines && options.output == Output::Report {
         options.output = Output::Json;
+    }
+    if options.raw {
+        return !options.lines && options.output.is_an_encoding();
     }
     !options.lines || options.output.has_a_line()
 }
@@ -202,6 +214,7 @@ pub fn options_of(words: &[String]) -> Option<Options<'_>> {
         form: None,
         lines: false,
         strict: false,
+        raw: false,
         help: false,
         version: false,
         kinds: false,
