@@ -5,6 +5,7 @@ export * from "./puffgrit.mjs";
 /** The kinds of `rewrite`, of `decode` and of `explain`. */
 export const KINDS: readonly string[];
 export const DECODED: readonly string[];
+export const RECORDS: readonly string[];
 export const EXPLAINED: readonly string[];
 
 /** Why an input is rejected: its first fault. */

@@ -229,6 +229,24 @@ class Puffgrit(unittest.TestCase):
         types = [messages.CtapMcRequest.__annotations__[it] for it in ("clientDataHash", "rp", "pubKeyCredParams", "pinUvAuthProtocol")]
         self.assertEqual(types, [bytes, messages.RpEntity, list[messages.CredentialParameters], int])
 
+    def test_exact_parts(self):
+        # authenticator data by their parts (WebAuthn Level 3, section 6.1), a key by its parameters (RFC 9053, section 7), others as bytes
+        key = {"kty": 2, "alg": -7, "crv": 1, "x": b"\1", "y": b"\2"}
+        attested = {"aaguid": uuid.UUID(int=1), "credentialId": b"\xaa", "credentialPublicKey": key}
+        parts = {"rpIdHash": bytes(32), "flags": ["UP", "AT", "ED"], "signCount": 7, "attestedCredentialData": attested, "extensions": {"a": 1}}
+        data = bytes(32) + bytes.fromhex("c100000007" f"{1:032x}" "0001aa" "a5010203262001214101224102" "a1616101")
+        self.assertEqual(puffgrit.encode("auth", parts), data)
+        self.assertEqual(puffgrit.decode_front("auth", data + b"\0", exact=True), (parts, len(data)))
+        self.assertEqual(puffgrit.decode("cose-key", puffgrit.encode("cose-key", key), exact=True), key)
+        # lengths in more bytes than they need
+        other = bytes(32) + bytes.fromhex("8000000000" "b800")
+        self.assertEqual(puffgrit.decode("auth", other, exact=True), other)
+        self.assertEqual(puffgrit.encode("auth", other), other[:37] + b"\xa0")
+        with self.assertRaises(puffgrit.Fault) as raised:
+            puffgrit.encode("auth", {**parts, "flags": ["UP", "EA"]})
+        wanted = ("NoItem", "flags[1]: one of UP, UV, BE, BS, AT and ED is wanted")
+        self.assertEqual((raised.exception.name, raised.exception.explanation), wanted)
+
     def test_exact_rows(self):
         # each input of crates/passkey_rows that is accepted comes back as its encoding
         inputs, answers = [(ROOT / "crates/passkey_rows" / it).read_text(encoding="utf-8").split("\n") for it in ("stdin", "stdout")]
