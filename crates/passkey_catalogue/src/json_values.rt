@@ -186,12 +186,12 @@ fn message_values<M: Message>(alloc: Global, input: &[u8]) -> Result<(String, us
 }
 
 /// Whether these bytes are authenticator data with the same parts.
-fn has_parts(alloc: Global, data: &AuthenticatorData, bytes: &[u8]) -> Result<bool, OutOfMemory>
-    ensures { IfOk result (λ b. IsTrue b → ReadsData bytes.now (Ok (data_parts data.now))) }
+fn has_parts(alloc: Global, wanted: &AuthenticatorData, bytes: &[u8]) -> Result<bool, OutOfMemory>
+    ensures { IfOk result (λ b. IsTrue b → ReadsData bytes.now (Ok (data_parts wanted.now))) }
 {
     match AuthenticatorData::from_slice(alloc, bytes) {
         Ok(found) => {
-            let is_same = found == *data;
+            let is_same = found == *wanted;
             drop(found);
             Ok(is_same)
         }
