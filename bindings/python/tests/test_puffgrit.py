@@ -159,8 +159,7 @@ class Puffgrit(unittest.TestCase):
             ("cbor", {puffgrit.item_at(bytes.fromhex("8101")): 0}, "a1810100"),
         ]:
             self.assertEqual(puffgrit.encode(kind, value).hex(), made)
-        for kind in ["auth", "tpm-cert-info", "creation", "key"]:
-            self.assertRaisesRegex(ValueError, "no kind", puffgrit.encode, kind, {})
+        self.assertRaisesRegex(ValueError, "no kind", puffgrit.encode, "key", {})
         for value in [{1}, bytearray(), {True: 1}, {None: 1}, {1.0: 1}, {(1,): 1}, [object]]:
             self.assertRaises(TypeError, puffgrit.encode, "cbor", value)
         for value in ["\ud800", {"\ud800": 1}]:
@@ -217,13 +216,12 @@ class Puffgrit(unittest.TestCase):
         with self.assertRaises(puffgrit.Fault) as caught:
             puffgrit.decode("pin-request", b"\xa0", exact=True)
         self.assertEqual(caught.exception.name, "Missing")
-        for kind in ["auth", "tpm-pub-area", "request"]:
-            self.assertRaisesRegex(ValueError, "no kind", puffgrit.decode, kind, b"", exact=True)
+        self.assertRaisesRegex(ValueError, "no kind", puffgrit.decode, "key", b"", exact=True)
 
     def test_types(self):
         # the members of CTAP 2.2, sections 6.1 and 6.2, by their names
         members = {"rpId": "a", "clientDataHash": bytes(32), "allowList": [], "extensions": {}, "options": {}}
-        members.update(pinUvAuthParam=b"", pinUvAuthProtocol=1)
+        members.update(pinUvAuthParam=b"", pinUvAuthProtocol=1, enterpriseAttestation=1, attestationFormatsPreference=["packed"])
         decoded = puffgrit.decode("ctap-ga-request", puffgrit.encode("ctap-ga-request", members), exact=True)
         self.assertEqual(decoded.keys(), messages.CtapGaRequest.__annotations__.keys())
         types = [messages.CtapMcRequest.__annotations__[it] for it in ("clientDataHash", "rp", "pubKeyCredParams", "pinUvAuthProtocol")]
