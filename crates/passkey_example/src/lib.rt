@@ -5,8 +5,7 @@ use passkey_types::ctap2::Fault;
 use passkey_types::ctap2::get_info::Response;
 use std::alloc::Global;
 
-/// Returns whether the authenticator of this authenticatorGetInfo response can verify its user by
-/// itself, or the response's first fault.
+/// Returns whether the authenticator can verify its user by itself, or the response's first fault.
 pub fn verifies_users(alloc: Global, response: &[u8]) -> Result<bool, Fault> {
     let (info, _len) = Response::from_slice(alloc, response)?;
     match info.options {
