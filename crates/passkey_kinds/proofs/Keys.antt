@@ -1,10 +1,13 @@
 -- The rows that names and map keys name.
 use Rattle.passkey_kinds.proofs.Common.{named_as, IsEncodedAt, CursorState, LooksOnce, Spends, Further, Onward, sym, nat_tests, find, bytes_eq, ◌≡◌, ◌∙◌, ◌<◌, ◌==◌, ℕ, arith, zero, suc, Bool, true, ◌+◌, List, [], ◌∷◌, ◌++◌, length, map, take, drop, set, get_or, Bor, add-one, Option, Some, None, cond, nat_lt, slice_get, refl, ap, cases_lt, eqb-true, length-map, map_push, take_more_set, Item, scalar_in, naming_of, IfSome, entry_of, Row, Entry, row, wrong, row_or_unknown, names, position, position_or_len, take-suc, slice_get_past, row_at, row_named, both_names, append_assoc, length-append, option_or}
-use Rattle.std.specs.Prelude.{IfNone, pos}
+use Rattle.std.specs.Prelude.{IfNone, pos, ◌≤◌}
 use Rattle.std.proofs.lemmas.Slice.Eq.{bytes_eq-Decides}
 use Rattle.std.proofs.Math.Seq.{drop-cons}
 use Rattle.passkey_cbor.specs.Found.{small_number}
-use Rattle.passkey_cbor.specs.Lent.{begins_text}
+use Rattle.passkey_cbor.specs.CursorState.{ahead}
+use Rattle.passkey_cbor.specs.Heads.{Heads, within, following, one, two, four, eight}
+use Rattle.passkey_cbor.specs.Languages.{Is, Then}
+use Rattle.passkey_cbor.specs.Lent.{begins_text, PassesString, Region}
 use Rattle.passkey_webauthn.specs.Names.{Names, row_of, value_in}
 use Rattle.passkey_kinds.specs.RecordReading.{ReadsKey, FindsRow, LooksTwice}
 use Rattle.passkey_kinds.proofs.Lent.{missed_spends}
@@ -64,9 +67,9 @@ pub one_more_name : (f : Entry → List ℕ) (before : List (List ℕ)) (rows : 
     → map (λ (n : Bor (List ℕ)). n.now) (take j all) ≡ before ++ map f (map entry_of (take i rows))
     → map (λ (n : Bor (List ℕ)). n.now) (take (j + 1) (set all j name))
     ≡ before ++ map f (map entry_of (take (i + 1) rows))
-one_more_name f before rows all j i name d less within is so_far =
+one_more_name f before rows all j i name d less inside is so_far =
     rw (
-      take_more_set all j name within,
+      take_more_set all j name inside,
       map_push,
       so_far,
       is,
@@ -171,6 +174,66 @@ row_begins bytes rows i d less first begins =
     begun_row bytes (map entry_of rows) e (sym first
     ∙ ap (λ (rs : List Row). find (λ (e : Entry). begins_text e.name bytes) (map entry_of rs)) next ∙ found) begins
 
+-- ---- a text that no name begins
+
+take_few : {A : Type 0} (k : ℕ) (xs : List A) → length (take k xs) ≤ k
+take_few zero xs = omega arith
+take_few (suc k) [] = omega arith
+take_few (suc k) (x ∷ xs) = omega (arith, take_few k xs)
+
+take_same : {A : Type 0} (k : ℕ) (xs s : List A) → take k xs ≡ s → k ≡ length s → take (length s) xs ≡ s
+take_same k xs s is len = rw (← len) is
+
+-- a head of more than one byte is too long
+too_long : (k : ℕ) (s rest front back : List ℕ) (b : ℕ) → 2 ≤ length front → back ≡ s
+    → take (suc k) (b ∷ rest) ≡ front ++ back → suc k ≡ 1 + length s → ⊥
+too_long k s rest front back b long same whole size =
+    omega (arith, take_few k rest, ap length whole, long, length-append front back, ap length same, size)
+
+begun_by : (n k : ℕ) (s rest front back : List ℕ) (b : ℕ) → Heads 3 n front → back ≡ s
+    → take (suc k) (b ∷ rest) ≡ front ++ back → n ≡ length s → suc k ≡ 1 + length s → begins_text s (b ∷ rest) ≡ true
+begun_by n k s rest front back b (within less is) same whole len size =
+    grind (arith, take_same k rest s, len, size, less, is, same, whole, nat_tests, cases_lt, eqb-true,
+    (bytes_eq-Decides s s).1 refl)
+begun_by n k s rest front back b (following one less is) same whole len size =
+    absurd (too_long k s rest front back b (omega (arith, ap length is)) same whole size)
+begun_by n k s rest front back b (following two less is) same whole len size =
+    absurd (too_long k s rest front back b (omega (arith, ap length is)) same whole size)
+begun_by n k s rest front back b (following four less is) same whole len size =
+    absurd (too_long k s rest front back b (omega (arith, ap length is)) same whole size)
+begun_by n k s rest front back b (following eight less is) same whole len size =
+    absurd (too_long k s rest front back b (omega (arith, ap length is)) same whole size)
+
+nothing_begun : (n : ℕ) (front back : List ℕ) → Heads 3 n front → [] ≡ front ++ back → {Q : Type 0} → Q
+nothing_begun n front back (within less is) whole = absurd (grind (arith, is, whole))
+nothing_begun n front back (following s less is) whole = absurd (grind (arith, is, whole))
+
+-- a text that takes one byte more than it has begins the bytes
+text_begun : (n k : ℕ) (s bytes : List ℕ) → Then (Heads 3 n) (Is s) (take k bytes) → n ≡ length s → k ≡ 1 + length s
+    → begins_text s bytes ≡ true
+text_begun n zero s bytes t len size = absurd (omega (arith, size))
+text_begun n (suc k) s (b ∷ rest) t len size = begun_by n k s rest t.front t.back b t.first t.second t.whole len size
+text_begun n (suc k) s [] t len size = nothing_begun n t.front t.back t.first t.whole
+
+none_named : {A : Type 0} (f : A → List ℕ) (s bytes : List ℕ) (xs : List A) → begins_text s bytes ≡ true
+    → find (λ x. begins_text (f x) bytes) xs ≡ None → find (λ x. bytes_eq (f x) s) xs ≡ None
+none_named f s bytes [] begins h = refl
+none_named f s bytes (x ∷ xs) begins h = grind (arith, begins_both bytes (f x) s, none_named f s bytes xs begins)
+
+none_of_definite : {A : Type 0} (f : A → List ℕ) (xs : List A) (a b : CursorState) (found : Option ℕ) (s : List ℕ) (k : ℕ)
+    → PassesString true a b (record { len = found; bytes = s }) → find (λ x. begins_text (f x) (ahead a)) xs ≡ None
+    → b.place ≡ a.place + k → IfSome found (λ n. k ≡ 1 + length s → find (λ x. bytes_eq (f x) s) xs ≡ None)
+none_of_definite f xs a b None s k p none moved = tt
+none_of_definite f xs a b (Some n) s k p none moved = λ size.
+    none_named f s (ahead a) xs (text_begun n p.len s (ahead a) p.headed (p.tells.0.0 ∙ ap length (sym p.tells.1))
+    (omega (arith, p.place, moved, size))) none
+
+-- a text of definite length that was passed, with its head of one byte, is none of the names that don't begin the bytes
+pub none_of : {A : Type 0} (f : A → List ℕ) (xs : List A) (a b : CursorState) (r : Region) (k : ℕ) → PassesString true a b r
+    → find (λ x. begins_text (f x) (ahead a)) xs ≡ None → b.place ≡ a.place + k
+    → IfSome r.len (λ n. k ≡ 1 + length r.bytes → find (λ x. bytes_eq (f x) r.bytes) xs ≡ None)
+none_of f xs a b r k p none moved = none_of_definite f xs a b r.len r.bytes k p none moved
+
 -- ---- a number that the bytes begin with
 
 pub small_named : (n : ℕ) (es : List Entry) → n < 256
@@ -190,6 +253,11 @@ value_found : {T : Type 0} (s : List ℕ) (ns : Names T) (n : List ℕ × T) →
     → value_in ns s ≡ Some n.1
 value_found s [] n e = absurd cc
 value_found s (m ∷ ns) n e = grind (arith, value_found s ns n)
+
+-- no value has a name that none of the names is
+pub value_of_none : {T : Type 0} (s : List ℕ) (ns : Names T) → find (λ n. bytes_eq n.0 s) ns ≡ None → value_in ns s ≡ None
+value_of_none s [] e = refl
+value_of_none s (n ∷ ns) e = grind (arith, value_of_none s ns)
 
 pub value_begins : {T : Type 0} (bytes : List ℕ) (rows : List (Bor (List ℕ) × T)) (i : ℕ) (r : Bor (List ℕ) × T)
     → i < length rows → r ≡ get_or rows i r

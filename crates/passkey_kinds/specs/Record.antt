@@ -44,6 +44,10 @@ abbrev pub row_named : List Entry → List ℕ → Naming
 row_named rows name =
     row_or_unknown (option_or (find (λ e. bytes_eq e.name name) rows) (find (λ e. bytes_eq e.other name) rows))
 
+-- no row has this name as its own
+abbrev pub HasNoName : List Entry → List ℕ → Type 0
+HasNoName rows name = find (λ e. bytes_eq e.name name) rows ≡ None
+
 -- what an integer names: if members have numbers and it is below 256, the row with this number, if
 -- there is one
 abbrev pub number_names : Bool → Option ℕ → List Entry → Naming

@@ -1,5 +1,7 @@
 -- Decoding a record over a cursor: its cost and its steps.
+use Rattle.passkey_cbor.specs.Lent.{begins_text}
 use Rattle.passkey_kinds.specs.Base.{Item, members, CursorState}
+use Rattle.std.specs.List.{find}
 use Rattle.std.specs.Prelude.{ℕ, ◌+◌, ◌≤◌, max, ◌==◌, Bool, true, false, ◌&&◌, if◌then◌else◌, List, [], ◌∷◌, ◌++◌, map, ◌≡◌, Option, Some, None, Result, Ok, Err, IfSome, OnOk, slice_get}
 use Rattle.passkey_kinds.specs.Kind.{CountsLeast, Keeping, Least, least_of, least_sum, no_least, nothing, counted, kept_of, kept_sum, Typed, MayGrow, accepts}
 use Rattle.passkey_kinds.specs.Reader.{Spends, SpendsLess}
@@ -134,6 +136,10 @@ pub record FoundRow (wanted : Naming) (cost to : ℕ) (old new : CursorState) (f
 abbrev pub FindsRow : Naming → ℕ → ℕ → CursorState → CursorState → Option Named → Type 0
 FindsRow wanted cost to old new (Some found) = FoundRow wanted cost to old new found
 FindsRow wanted cost to old new None = Unit {0}
+
+-- No row's own name begins the bytes, as a text string with a head of one byte.
+abbrev pub BeginsNoName : List Entry → List ℕ → Type 0
+BeginsNoName rows bytes = find (λ e. begins_text e.name bytes) rows ≡ None
 
 -- The cursor doesn't move, and counts at most two heads.
 pub record LooksTwice (old new : CursorState) : Type 0 where

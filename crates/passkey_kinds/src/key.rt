@@ -1,11 +1,12 @@
 //! Map keys at a cursor, and the rows that they name.
-ghost use Rattle.std.specs.Prelude.{◌≡◌, ◌≤◌, ◌*◌, ℕ, Bool, List, Option, length, map, take, true, false, IfNone, IfSome};
+ghost use Rattle.std.specs.Prelude.{◌≡◌, ◌≤◌, ◌+◌, ◌*◌, ℕ, Bool, List, Option, length, map, take, true, false, IfNone, IfSome};
 ghost use Rattle.passkey_kinds.specs.Words.{Item, LooksOnce, LooksTwice, FindsRow, both_names, scalar_in, wrong, IsRegion};
 ghost use Rattle.passkey_kinds.specs.Words.{HoldsString, IsEncodedAt, Onward, Further, LooksAtMost, naming_of, named_as};
-ghost use Rattle.passkey_kinds.specs.Words.{entry_of, names, row_named, ReadsKey, row_at, scalar_of};
+ghost use Rattle.passkey_kinds.specs.Words.{BeginsNoName, HasNoName, entry_of, names, row_named, ReadsKey, row_at, scalar_of};
+ghost use Rattle.passkey_cbor.specs.CursorState.{ahead};
 
 use crate::head::read_scalar;
-use crate::rows::{Named, Row, of_number, with_name, with_number};
+use crate::rows::{Named, Row, of_number, with_name, with_number, with_other_name};
 use passkey_cbor::{BytesToken, Cursor, Head, TextToken};
 
 /// Returns the names of at most 64 rows, then their other names, followed by empty names.
@@ -37,15 +38,19 @@ fn at_index(rows: &[Row], index: Option<usize>) -> Named
     }
 }
 
-/// Finds the row whose name is this text string. Compares its chunks with all names at once,
-/// without copying them.
-fn with_text(rows: &[Row], token: &TextToken<'_>, cursor: &mut Cursor<'_>) -> Named
+/// Finds the row whose name is this text string, which takes `len` bytes with its head. Compares its
+/// chunks with all names at once, without copying them.
+fn with_text(rows: &[Row], token: &TextToken<'_>, len: usize, cursor: &mut Cursor<'_>) -> Named
     requires region { IsRegion true token.now }
     requires few { length rows.now ≤ 64 }
+    requires other { IfSome token.now.len (λ n. len ≡ 1 + length token.now.bytes
+        → HasNoName (map entry_of rows.now) token.now.bytes) }
     ensures names { (s : List ℕ) → HoldsString true token.now s → named_as result ≡ row_named (map entry_of rows.now) s }
     ensures looks { LooksAtMost token.now cursor.old cursor.new }
 {
     match token.lent() {
+        // With a head of one byte it would have been passed as an own name.
+        Some(name) if len == 1 + name.len() => with_other_name(rows, name.as_bytes()),
         Some(name) => with_name(rows, name.as_bytes()),
         None => with_text_chunks(rows, token, cursor),
     }
@@ -144,6 +149,7 @@ fn pass_name(rows: &[Row], cursor: &mut Cursor<'_>) -> Option<Named>
     ensures finds { (is_numbered : Bool) (key : Item) (to : ℕ) → IsEncodedAt key cursor.old.bytes cursor.old.place to
         → FindsRow (names is_numbered (map entry_of rows.now) key) 2 to cursor.old cursor.new result }
     ensures stays { IfNone result (cursor.new ≡ cursor.old) }
+    ensures none { IfNone result (BeginsNoName (map entry_of rows.now) (ahead cursor.old)) }
     ensures onward { Onward cursor.old cursor.new }
     ensures further { IfSome result (λ _. Further cursor.old cursor.new) }
 {
@@ -176,10 +182,12 @@ fn read_name(rows: &[Row], cursor: &mut Cursor<'_>) -> Option<Named>
     }
 }
 
-// The same for any string. Not inlined, since most keys are a row's own name.
+// The same for a string that `pass_name` doesn't pass. Not inlined, since most keys are a row's own
+// name.
 #[inline(never)]
 fn read_other_name(rows: &[Row], cursor: &mut Cursor<'_>) -> Option<Named>
-    requires { length rows.now ≤ 64 }
+    requires few { length rows.now ≤ 64 }
+    requires none { BeginsNoName (map entry_of rows.now) (ahead cursor.old) }
     ensures finds { (is_numbered : Bool) (key : Item) (to : ℕ) → IsEncodedAt key cursor.old.bytes cursor.old.place to
         → FindsRow (names is_numbered (map entry_of rows.now) key) 2 to cursor.old cursor.new result }
     ensures other { (is_numbered : Bool) (key : Item) (to : ℕ) → IsEncodedAt key cursor.old.bytes cursor.old.place to
@@ -191,8 +199,9 @@ fn read_other_name(rows: &[Row], cursor: &mut Cursor<'_>) -> Option<Named>
     ensures onward { Onward cursor.old cursor.new }
     ensures further { IfSome result (λ _. Further cursor.old cursor.new) }
 {
+    let start = cursor.place();
     match cursor.text() {
-        Some(token) => Some(with_text(rows, &token, cursor)),
+        Some(token) => Some(with_text(rows, &token, cursor.place() - start, cursor)),
         None => match cursor.bytes() {
             Some(token) => Some(with_bytes(rows, &token, cursor)),
             None => None,

@@ -1,5 +1,9 @@
 //! Names of enumerations, decoded from data items.
-ghost use Rattle.std.specs.Prelude.{◌≡◌, ◌≤◌, ℕ, List, length, map, take, true, IfNone, IfSome, Ok, OnOk};
+ghost use Rattle.std.specs.Prelude.{◌≡◌, ◌+◌, ◌≤◌, ℕ, List, length, map, take, true, None, IfNone, IfSome, Ok, OnOk};
+ghost use Rattle.std.specs.List.{find};
+ghost use Rattle.std.specs.Str.{bytes_eq};
+ghost use Rattle.passkey_cbor.specs.CursorState.{ahead};
+ghost use Rattle.passkey_cbor.specs.Lent.{begins_text};
 ghost use Rattle.passkey_kinds.specs.Words.{Item, IsRegion, HoldsString, IsEncodedAt, Onward, Further, ReadsAs, LooksAtMost};
 ghost use Rattle.passkey_kinds.specs.Words.{item_of, Answers, one_named, credential_type_named, transport_named};
 ghost use Rattle.passkey_webauthn.specs.Names.{row_of, texts, value_at, value_in};
@@ -43,14 +47,20 @@ fn at_index<T: EnumNames>(table: &[(&'static str, T)], index: Option<usize>) -> 
     }
 }
 
-/// Returns the value whose name is this text string. Compares its chunks with all names at once.
-fn named<T: EnumNames>(token: &TextToken<'_>, cursor: &mut Cursor<'_>) -> Option<T>
+/// Returns the value whose name is this text string, which takes `len` bytes with its head. Compares
+/// its chunks with all names at once.
+#[tactic(auto, using(crate::proofs::Keys::value_of_none))]
+fn named<T: EnumNames>(token: &TextToken<'_>, len: usize, cursor: &mut Cursor<'_>) -> Option<T>
     requires region { IsRegion true token.now }
     requires few { length T.table ≤ 16 }
+    requires none { IfSome token.now.len (λ n. len ≡ 1 + length token.now.bytes
+        → find (λ row. bytes_eq row.0 token.now.bytes) T.table ≡ None) }
     ensures named { (s : List ℕ) → HoldsString true token.now s → result ≡ value_in T.table s }
     ensures looks { LooksAtMost token.now cursor.old cursor.new }
 {
     match token.lent() {
+        // With a head of one byte it would have been passed as a name.
+        Some(name) if len == 1 + name.len() => None,
         Some(name) => T::from_name(name),
         None => {
             let table = T::table();
@@ -66,6 +76,7 @@ fn pass_named<T: EnumNames>(cursor: &mut Cursor<'_>) -> Option<T>
     ensures reads { (i : Item) (to : ℕ) → IsEncodedAt i cursor.old.bytes cursor.old.place to
         → IfSome result (λ v. ReadsAs (λ x. x) (one_named (value_in T.table)) i to cursor.old cursor.new (Ok v)) }
     ensures stays { IfNone result (cursor.new ≡ cursor.old) }
+    ensures none { IfNone result (find (λ row. begins_text row.0 (ahead cursor.old)) T.table ≡ None) }
     ensures onward { Onward cursor.old cursor.new }
     ensures further { IfSome result (λ _. Further cursor.old cursor.new) }
 {
@@ -91,17 +102,20 @@ fn read_named<T: EnumNames>(cursor: &mut Cursor<'_>) -> Result<T, Refusal>
     }
 }
 
-// The same for any text string. Not inlined, since most are a value's name.
+// The same for a text string that `pass_named` doesn't pass. Not inlined, since most are a value's
+// name.
 #[inline(never)]
 fn read_other_named<T: EnumNames>(cursor: &mut Cursor<'_>) -> Result<T, Refusal>
-    requires { length T.table ≤ 16 }
+    requires few { length T.table ≤ 16 }
+    requires none { find (λ row. begins_text row.0 (ahead cursor.old)) T.table ≡ None }
     ensures reads { (i : Item) (to : ℕ) → IsEncodedAt i cursor.old.bytes cursor.old.place to
         → ReadsAs (λ x. x) (one_named (value_in T.table)) i to cursor.old cursor.new result }
     ensures onward { Onward cursor.old cursor.new }
     ensures further { OnOk result (Further cursor.old cursor.new) }
 {
+    let start = cursor.place();
     match cursor.text() {
-        Some(token) => named(&token, cursor).ok_or(Refusal::Refused),
+        Some(token) => named(&token, cursor.place() - start, cursor).ok_or(Refusal::Refused),
         None => Err(Refusal::Refused),
     }
 }

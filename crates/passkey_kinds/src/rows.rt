@@ -1,8 +1,7 @@
 //! The rows of a table, by number and name.
-ghost use Rattle.std.specs.Prelude.{◌≡◌, ◌==◌, None, map};
+ghost use Rattle.std.specs.Prelude.{◌≡◌, ◌==◌, map};
 ghost use Rattle.std.specs.List.{find};
-ghost use Rattle.std.specs.Str.{bytes_eq};
-ghost use Rattle.passkey_kinds.specs.Words.{item_of, named_as, naming_of, entry_of, names, row_named, row_or_unknown, number_names};
+ghost use Rattle.passkey_kinds.specs.Words.{HasNoName, item_of, named_as, naming_of, entry_of, names, row_named, row_or_unknown, number_names};
 
 use passkey_cbor::Value;
 
@@ -114,10 +113,10 @@ pub(crate) fn with_name(rows: &[Row], name: &[u8]) -> Named
     with_other_name(rows, name)
 }
 
-// By itself, so that no row's other name is looked at before all own names were.
-fn with_other_name(rows: &[Row], name: &[u8]) -> Named
-    requires { find (λ e. bytes_eq e.name name.now) (map entry_of rows.now) ≡ None }
-    ensures { named_as result ≡ row_or_unknown (find (λ e. bytes_eq e.other name.now) (map entry_of rows.now)) }
+/// Finds the row whose other name this is, if no row has it as its own.
+pub(crate) fn with_other_name(rows: &[Row], name: &[u8]) -> Named
+    requires { HasNoName (map entry_of rows.now) name.now }
+    ensures { named_as result ≡ row_named (map entry_of rows.now) name.now }
 {
     for row in rows {
         match row {

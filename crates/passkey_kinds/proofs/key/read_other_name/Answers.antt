@@ -1,5 +1,13 @@
 use Rattle.passkey_kinds.proofs.Steps.{◌∙◌, map, sym, ap, arith, true, false, entry_of, names, names_other, lent_spends, lent_less, stands_missed, further_from, looked_further, onward_of}
+use Rattle.passkey_kinds.proofs.Keys.{none_of}
+use Rattle.passkey_kinds.specs.Record.{Entry}
 use Rattle.passkey_kinds.proofs.key.read_other_name.Goals as goal
+
+pub with_text-requires-clause-other : goal.with_text-requires-clause-other
+with_text-requires-clause-other c =
+    let passed = c.in-Some.ensures.front in
+    none_of (λ (e : Entry). e.name) (map entry_of c.args.rows.now) _ _ c.in-Some.token _ passed c.requires.none
+    (omega (arith, c.place.ensures, c.place-start.ensures, passed.place))
 
 pub returns-in-Some-clause-finds : goal.returns-in-Some-clause-finds
 returns-in-Some-clause-finds c = λ b key to l.

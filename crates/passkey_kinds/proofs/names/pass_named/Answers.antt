@@ -21,7 +21,8 @@ returns-then-pass_text-clause-reads g c = λ i to l.
     subst (λ (w : CursorState). Decodes (λ x. x) (name_from (value_in g.T.EnumNames.table) i) (MayGrow false i) 2 0 to w
     c.pass_text.new.self (Ok name.1)) same
     (lent_decodes (name_from (value_in g.T.EnumNames.table)) false i (omega arith) here passed.passes f (looks_none _ _)
-    (sym (ap (λ ns. value_in ns f.0) c.table-table.ensures) ∙ sym (ap (value_in (map row_of c.table-table.result.now)) is) ∙ value))
+    (sym (ap (λ ns. value_in ns f.0) c.table-table.ensures) ∙ sym (ap (value_in (map row_of c.table-table.result.now)) is)
+    ∙ value))
 
 pub returns-then-pass_text-clause-further : goal.returns-then-pass_text-clause-further
 returns-then-pass_text-clause-further g c =
