@@ -28,7 +28,7 @@ no_shortest bytes r rest (none why is absent n) = no_head bytes why rest n
 no_shortest bytes r rest (longer h following b other is there) = whole bytes rest there
 
 mutual
-  item_ends : {levels : ℕ} {bytes : List ℕ} {r : Rule} {rest : List ℕ} → Breaks levels bytes r rest → EndsIn bytes rest
+  pub item_ends : {levels : ℕ} {bytes : List ℕ} {r : Rule} {rest : List ℕ} → Breaks levels bytes r rest → EndsIn bytes rest
   item_ends {bytes = bytes} {r = r} {rest = rest} (at_head n) = no_shortest bytes r rest n
   item_ends {bytes = bytes} {rest = rest} (barred h following b rule there) = whole bytes rest there
   item_ends {bytes = bytes} {rest = rest} (in_string is_text n following b c) =

@@ -8,3 +8,4 @@ pub mod Suffixes
 pub mod Breaking
 pub mod BrokenThere
 pub mod Exclusive
+pub mod UnmetThere

@@ -2,3 +2,4 @@ pub mod Stops
 pub mod Why
 pub mod Rules
 pub mod Breaks
+pub mod Demands

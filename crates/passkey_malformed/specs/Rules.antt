@@ -1,4 +1,4 @@
--- The texts that say where bytes aren't in CTAP2's canonical form, and which of its rules they break.
+-- The texts that say where bytes aren't in CTAP2's canonical form, and which of its rules they break; and the rules' numbers.
 use Rattle.std.specs.Prelude.{ℕ, List, ◌++◌, codes}
 use Rattle.std.specs.Fmt.{decimal}
 use Rattle.passkey_malformed.specs.Why.{why_text}
@@ -19,3 +19,15 @@ rule_text rule.NothingAfter = codes "bytes follow the data item"
 
 abbrev pub not_canonical_text : NotCanonical → List ℕ
 not_canonical_text n = rule_text n.rule ++ codes " (offset " ++ decimal n.offset ++ codes ")"
+
+-- the number of a rule in C, from 1 on
+abbrev pub rule_number : Rule → ℕ
+rule_number (rule.WellFormed why) = 1
+rule_number rule.ShortestHead = 2
+rule_number rule.DefiniteLength = 3
+rule_number rule.NoTag = 4
+rule_number rule.NoUndefined = 5
+rule_number rule.AscendingKeys = 6
+rule_number rule.DistinctKeys = 7
+rule_number rule.Levels = 8
+rule_number rule.NothingAfter = 9

@@ -20,13 +20,13 @@ pub const CTAP2_DEPTH: usize = 4;
 
 /// Where the bytes break a rule.
 #[derive(Clone, Copy)]
-struct Breach<'a> {
-    rule: Rule,
+pub(crate) struct Breach<'a> {
+    pub(crate) rule: Rule,
     /// The bytes from there on.
-    rest: &'a [u8],
+    pub(crate) rest: &'a [u8],
 }
 
-fn broken(rule: Rule, rest: &[u8]) -> Breach<'_>
+pub(crate) fn broken(rule: Rule, rest: &[u8]) -> Breach<'_>
     ensures rule { result.rule ≡ rule }
     ensures rest { result.rest.now ≡ rest.now }
 {
@@ -256,7 +256,7 @@ fn after_content<'a>(
 
 /// Returns the bytes after a canonical data item of at most `levels` levels, or which rule is broken.
 #[cycle(canonical)]
-fn after_item(bytes: &[u8], levels: usize) -> Result<&[u8], Breach<'_>>
+pub(crate) fn after_item(bytes: &[u8], levels: usize) -> Result<&[u8], Breach<'_>>
     ensures { MatchResult result (λ rest. BeginsItem levels bytes.now rest.now)
         (λ b. Breaks levels bytes.now b.rule b.rest.now) }
 {

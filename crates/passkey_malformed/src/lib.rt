@@ -3,6 +3,7 @@
 #![tactic(auto)]
 
 mod canonical;
+mod demands;
 mod first_fault;
 mod heads;
 mod items;
@@ -11,6 +12,7 @@ mod strings;
 mod why;
 
 pub use canonical::{CTAP2_DEPTH, not_canonical};
+pub use demands::{Demands, unmet};
 pub use first_fault::malformed;
 pub use rule::{NotCanonical, Rule};
 pub use why::{Malformed, Why};

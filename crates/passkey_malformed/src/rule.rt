@@ -1,6 +1,6 @@
 //! The rules of CTAP2's canonical form.
-ghost use Rattle.std.specs.Prelude.{Some};
-ghost use Rattle.passkey_malformed.specs.Rules.{not_canonical_text, rule_text};
+ghost use Rattle.std.specs.Prelude.{◌≡◌, Some};
+ghost use Rattle.passkey_malformed.specs.Rules.{not_canonical_text, rule_number, rule_text};
 
 use crate::why::Why;
 use std::fmt;
@@ -26,6 +26,25 @@ pub enum Rule {
     Levels,
     /// No bytes follow the data item.
     NothingAfter,
+}
+
+impl Rule {
+    /// The rule's number in C, from 1 on.
+    pub fn number(self) -> u8
+        ensures { result ≡ rule_number self }
+    {
+        match self {
+            Rule::WellFormed(_) => 1,
+            Rule::ShortestHead => 2,
+            Rule::DefiniteLength => 3,
+            Rule::NoTag => 4,
+            Rule::NoUndefined => 5,
+            Rule::AscendingKeys => 6,
+            Rule::DistinctKeys => 7,
+            Rule::Levels => 8,
+            Rule::NothingAfter => 9,
+        }
+    }
 }
 
 impl fmt::Display for Rule {

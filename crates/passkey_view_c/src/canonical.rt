@@ -1,26 +1,9 @@
 //! Where bytes leave CTAP2's canonical form, for C.
-ghost use Rattle.std.specs.Prelude.{◌≡◌, min};
+ghost use Rattle.std.specs.Prelude.{min};
 ghost use Rattle.passkey_cbor.specs.LeadingItem.{max_depth};
-ghost use Rattle.passkey_view_c.specs.Canonical.{FindsBreach, rule_number};
+ghost use Rattle.passkey_view_c.specs.Canonical.{FindsBreach};
 
-use passkey_malformed::{Rule, not_canonical};
-
-/// Returns the number of a rule in C.
-fn rule_number(rule: Rule) -> u32
-    ensures { result ≡ rule_number rule }
-{
-    match rule {
-        Rule::WellFormed(_) => 1,
-        Rule::ShortestHead => 2,
-        Rule::DefiniteLength => 3,
-        Rule::NoTag => 4,
-        Rule::NoUndefined => 5,
-        Rule::AscendingKeys => 6,
-        Rule::DistinctKeys => 7,
-        Rule::Levels => 8,
-        Rule::NothingAfter => 9,
-    }
-}
+use passkey_malformed::not_canonical;
 
 /// Returns PUFFGRIT_CANONICAL, which is 0, if the bytes are exactly one data item in CTAP2's canonical form, with arrays
 /// and maps inside one another at no more than so many levels (4 in messages), and at most 256. Else writes
@@ -35,7 +18,7 @@ pub extern "C" fn puffgrit_not_canonical(bytes: &[u8], levels: usize, offset: &m
         None => 0,
         Some(found) => {
             *offset = found.offset;
-            rule_number(found.rule)
+            u32::from(found.rule.number())
         }
     }
 }

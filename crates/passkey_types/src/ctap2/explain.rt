@@ -6,5 +6,5 @@ pub use passkey_explain::{
 };
 pub use passkey_explain_data::{DataPart, DataReason, DataRefusal, explain_data};
 pub use passkey_malformed::{
-    CTAP2_DEPTH, Malformed, NotCanonical, Rule, Why, malformed, not_canonical,
+    CTAP2_DEPTH, Demands, Malformed, NotCanonical, Rule, Why, malformed, not_canonical, unmet,
 };
