@@ -45,7 +45,7 @@ def requests():
     """The requests to the calls that decode, and those to the calls that look; mutated ones are the same each time."""
     tool = test_c()
     rows, inputs = tool.rewritings()
-    asked = [it for it, _ in [*rows, *tool.examinations()]]
+    asked = [it for it, _ in [*rows, *tool.strict_rows(), *tool.examinations()]]
     asked += [f"{call} {kind} 60000 {given.hex() or '-'}" for call in ["json", "explain", "values"] for kind, given, _ in tool.examined_rows()]
     return [*asked, *deep(), *itertools.islice(tool.mutated_rewritings(inputs), MUTATED)], tool.mutated_looks()
 

@@ -109,7 +109,13 @@ typedef unsigned char puffgrit_bool; /* 0 or 1 */
 #define PUFFGRIT_KIND_CTAP_GA_RESPONSE 47u
 #define PUFFGRIT_KIND_ATTESTATION_OBJECT 48u
 
-/* The statuses of calls that decode. A fault's status is in the first byte, and the number of its member in the second. */
+/* What may be added to a kind's number, to ask for more than that the kind accepts the input (puffgrit_rewrite). */
+#define PUFFGRIT_CANONICAL_ONLY 0x100u
+#define PUFFGRIT_FOUR_LEVELS 0x200u
+#define PUFFGRIT_ALL_BYTES 0x400u
+
+/* The statuses of calls that decode. A fault's status is in the first byte, and in the second the number of its member, or of the
+   rule that is broken. */
 #define PUFFGRIT_OK 0u
 #define PUFFGRIT_TOO_SHORT 1u
 #define PUFFGRIT_OUT_OF_MEMORY 2u
@@ -127,10 +133,11 @@ typedef unsigned char puffgrit_bool; /* 0 or 1 */
 #define PUFFGRIT_FAULT_FLOAT 25u
 #define PUFFGRIT_FAULT_BAD_JSON 26u
 #define PUFFGRIT_FAULT_NO_ITEM 27u
+#define PUFFGRIT_FAULT_NOT_CANONICAL 28u
 #define PUFFGRIT_STATUS_OF(returned) ((returned) & 255u)
 #define PUFFGRIT_MEMBER_OF(returned) ((returned) >> 8)
 
-/* The rules of CTAP2's canonical form (CTAP 2.2, section 8), for puffgrit_not_canonical. */
+/* The rules of CTAP2's canonical form (CTAP 2.2, section 8). */
 #define PUFFGRIT_CANONICAL 0u
 #define PUFFGRIT_RULE_WELL_FORMED 1u
 #define PUFFGRIT_RULE_SHORTEST_HEAD 2u
@@ -203,13 +210,18 @@ uint32_t puffgrit_values(uint32_t kind, const uint8_t *input, size_t input_len, 
 /* Decodes the input as this kind, encodes the result again, in CTAP2's canonical form or as compact JSON, and writes it
    to the beginning of out and its length to len; and to read how many bytes of the input were decoded: those of the data
    item or the message at its beginning, as puffgrit_item_len counts them; those of authenticator data up to the end of
-   their last part; or all of a JSON text or a structure of a TPM. Bytes after these are ignored: a caller for whom there
-   must be none compares read with the input's length. Returns PUFFGRIT_OK then; PUFFGRIT_TOO_SHORT, with the length that
-   is needed in len, if the output has fewer bytes; PUFFGRIT_OUT_OF_MEMORY if an allocation fails; PUFFGRIT_UNKNOWN_KIND;
-   or why the input is rejected: its first fault, from PUFFGRIT_FAULT_DECODE_FAILED on, and in the second byte the number
-   of the member that it is about (PUFFGRIT_MEMBER_OF). out stays as it was but for PUFFGRIT_OK, and so do len and read
-   but for PUFFGRIT_OK and PUFFGRIT_TOO_SHORT. All memory that was allocated is freed. (CTAP 2.1, sections 6 and 8;
-   WebAuthn Level 3, sections 5 to 8.) */
+   their last part; or all of a JSON text or a structure of a TPM. Bytes after these are ignored, unless
+   PUFFGRIT_ALL_BYTES is added to the kind. Returns PUFFGRIT_OK then; PUFFGRIT_TOO_SHORT, with the length that is needed
+   in len, if the output has fewer bytes; PUFFGRIT_OUT_OF_MEMORY if an allocation fails; PUFFGRIT_UNKNOWN_KIND; or why
+   the input is rejected: its first fault, from PUFFGRIT_FAULT_DECODE_FAILED on, and in the second byte the number of the
+   member that it is about (PUFFGRIT_MEMBER_OF). out stays as it was but for PUFFGRIT_OK, and so do len and read but for
+   PUFFGRIT_OK and PUFFGRIT_TOO_SHORT. All memory that was allocated is freed. What is added to the kind asks for more of
+   an input that the kind accepts: PUFFGRIT_CANONICAL_ONLY that its data item is in CTAP2's canonical form;
+   PUFFGRIT_FOUR_LEVELS that arrays, maps and tags are inside one another at no more than four levels; and
+   PUFFGRIT_ALL_BYTES that no bytes follow. Of authenticator data, structures of a TPM and JSON texts, which aren't one
+   data item, only the last is asked. If it isn't so, PUFFGRIT_FAULT_NOT_CANONICAL is returned, with the first rule that
+   is broken in the second byte, as PUFFGRIT_RULE_NO_TAG. (CTAP 2.2, sections 6 and 8; WebAuthn Level 3, sections 5 to
+   8.) */
 uint32_t puffgrit_rewrite(uint32_t kind, const uint8_t *input, size_t input_len, size_t *read, uint8_t *out, size_t out_len, size_t *len);
 
 /* The version of this interface: 3. A call or a struct that changes raises it. */
@@ -232,11 +244,13 @@ uint32_t puffgrit_json(uint32_t kind, const uint8_t *input, size_t input_len, si
    innermost data item, or map key, that its table refuses; of authenticator data the part, or what in the credential
    public key; of a COSE key the label or the value that is no key's; of an attestation statement the data item or map
    key that its format refuses; of a structure of a TPM the field; or the bytes from where they aren't well-formed; of a
-   JSON text all of it. And a text is written to the beginning of out, or as much of it as there is room for, and its
-   whole length to len. It says where these bytes are and what is wanted there, as "user.id: a byte string is wanted
-   (offset 58, length 10)"; of a JSON text it names the value, as "publicKey.timeout: an integer from 0 to 4294967295 is
-   wanted". It is ASCII, but for the names of members in a JSON text that no record knows, which are UTF-8. Otherwise
-   nothing is written. (CTAP 2.1, section 6; RFC 8949, section 3; WebAuthn Level 3, sections 5, 6.1 and 8.) */
+   JSON text all of it; and of what isn't as the flags ask (see puffgrit_rewrite) the data item or the map key that
+   breaks the rule, or the trailing bytes. And a text is written to the beginning of out, or as much of it as there is
+   room for, and its whole length to len. It says where these bytes are and what is wanted there, as "user.id: a byte
+   string is wanted (offset 58, length 10)"; of a JSON text it names the value, as "publicKey.timeout: an integer from 0
+   to 4294967295 is wanted". It is ASCII, but for the names of members in a JSON text that no record knows, which are
+   UTF-8. Otherwise nothing is written. (CTAP 2.1, section 6; RFC 8949, section 3; WebAuthn Level 3, sections 5, 6.1 and
+   8.) */
 uint32_t puffgrit_explain(uint32_t kind, const uint8_t *input, size_t input_len, size_t *read, puffgrit_refusal *refusal, uint8_t *out, size_t out_len, size_t *len);
 
 /* Encodes what the JSON stands for as this kind: writes what puffgrit_rewrite writes of that input to the beginning of

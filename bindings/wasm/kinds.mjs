@@ -27,3 +27,8 @@ export const RECORDS = [
 
 /** The kinds of `explain`: all. */
 export const EXPLAINED = KINDS;
+
+/** The rules of CTAP2's canonical form (CTAP 2.2, section 8), by their numbers in C from 1 on. */
+export const RULES = [
+  "WellFormed", "ShortestHead", "DefiniteLength", "NoTag", "NoUndefined", "AscendingKeys", "DistinctKeys", "Levels", "NothingAfter",
+];

@@ -2,8 +2,9 @@
 // look.
 //
 // A kind is one of the names in KINDS; bytes are a Uint8Array, of a JSON text its UTF-8. Bytes after a data item, a message or
-// authenticator data are ignored. What a kind rejects is thrown as a Fault.
-import { DECODED, EXPLAINED, KINDS, RECORDS } from "./kinds.mjs";
+// authenticator data are ignored. What a kind rejects is thrown as a Fault, and so is what isn't as is asked: { canonical, fourLevels,
+// allBytes } ask that a data item is in CTAP2's canonical form, has at most four levels of arrays, maps and tags, or ends the bytes.
+import { DECODED, EXPLAINED, KINDS, RECORDS, RULES } from "./kinds.mjs";
 import { instantiate, looks, placing } from "./puffgrit.mjs";
 
 export * from "./kinds.mjs";
@@ -12,7 +13,7 @@ export * from "./puffgrit.mjs";
 const OK = 0, TOO_SHORT = 1, OUT_OF_MEMORY = 2, FIRST_FAULT = 16;
 const FAULTS = [
   "DecodeFailed", "NotAMap", "BadKey", "Repeated", "Refused", "Missing", "OutOfRangeIntegerValue", "DuplicateMapKey", "UnexpectedItem",
-  "Float", "BadJson", "NoItem",
+  "Float", "BadJson", "NoItem", "NotCanonical",
 ];
 const WITH_MEMBER = ["Repeated", "Refused", "Missing"];
 
@@ -21,15 +22,16 @@ export class Fault extends Error {
   constructor(status, explained = {}) {
     const fault = FAULTS[(status & 255) - FIRST_FAULT];
     const member = WITH_MEMBER.includes(fault) && status >> 8 ? status >> 8 : null;
+    const rule = fault === "NotCanonical" ? RULES[(status >> 8) - 1] : null;
     const { explanation = null, offset = null, length = null } = explained;
     super(explanation ?? (member === null ? fault : `${fault}(${member})`));
-    Object.assign(this, { name: "Fault", fault, member, explanation, offset, length });
+    Object.assign(this, { name: "Fault", fault, member, rule, explanation, offset, length });
   }
 }
 
-function numberOf(kind, kinds) {
+function numberOf(kind, kinds, { canonical = false, fourLevels = false, allBytes = false } = {}) {
   if (!kinds.includes(kind)) throw new RangeError(`no kind ${kind}`);
-  return KINDS.indexOf(kind) + 1;
+  return KINDS.indexOf(kind) + 1 + (canonical ? 0x100 : 0) + (fourLevels ? 0x200 : 0) + (allBytes ? 0x400 : 0);
 }
 
 function base64urlOf(bytes) {
@@ -120,41 +122,40 @@ export async function loadAll(source) {
     }
   }
 
-  /** Why the bytes are rejected as this kind, one of EXPLAINED; null if they aren't. */
-  function explain(kind, bytes) {
-    const { status, offset, length, bytes: text } = whole("puffgrit_explain", numberOf(kind, EXPLAINED), bytes);
+  /** Why the bytes are rejected as this kind, one of EXPLAINED, or aren't as is asked; null if neither. */
+  function explain(kind, bytes, asked) {
+    const { status, offset, length, bytes: text } = whole("puffgrit_explain", numberOf(kind, EXPLAINED, asked), bytes);
     return status === OK ? null : new Fault(status, { explanation: new TextDecoder().decode(text), offset, length });
   }
 
   /** What a call makes of bytes that the kind accepts; throws the fault of others. */
-  function accepted(name, kind, kinds, bytes) {
-    const made = whole(name, numberOf(kind, kinds), bytes);
+  function accepted(name, kind, kinds, bytes, asked) {
+    const made = whole(name, numberOf(kind, kinds, asked), bytes);
     if (made.status === OK) return made;
-    throw explain(kind, bytes) ?? new Fault(made.status);
+    throw explain(kind, bytes, asked) ?? new Fault(made.status);
   }
 
   /** What `rewrite` returns, and how many of the bytes were decoded. */
-  function rewriteFront(kind, bytes) {
-    const made = accepted("puffgrit_rewrite", kind, KINDS, bytes);
+  function rewriteFront(kind, bytes, asked) {
+    const made = accepted("puffgrit_rewrite", kind, KINDS, bytes, asked);
     return { bytes: made.bytes, read: made.read };
   }
 
   /** The JSON text of which `decode` returns the value, and how many of the bytes were decoded. */
-  function jsonFront(kind, bytes) {
-    const made = accepted("puffgrit_json", kind, DECODED, bytes);
+  function jsonFront(kind, bytes, asked) {
+    const made = accepted("puffgrit_json", kind, DECODED, bytes, asked);
     return { text: new TextDecoder().decode(made.bytes), read: made.read };
   }
 
   /** What `values` returns, and how many of the bytes were decoded. */
-  function valuesFront(kind, bytes) {
-    const { status, bytes: text, read } = whole("puffgrit_values", numberOf(kind, KINDS), bytes);
-    if (status === OK) return { value: valueOf(new TextDecoder().decode(text)), read };
-    throw explain(kind, bytes) ?? new Fault(status);
+  function valuesFront(kind, bytes, asked) {
+    const { bytes: text, read } = accepted("puffgrit_values", kind, KINDS, bytes, asked);
+    return { value: valueOf(new TextDecoder().decode(text)), read };
   }
 
   /** What `decode` returns, and how many of the bytes were decoded. */
-  function decodeFront(kind, bytes) {
-    const { text, read } = jsonFront(kind, bytes);
+  function decodeFront(kind, bytes, asked) {
+    const { text, read } = jsonFront(kind, bytes, asked);
     return { value: JSON.parse(text), read };
   }
 
@@ -171,12 +172,12 @@ export async function loadAll(source) {
     version: () => calls.puffgrit_version() >>> 0,
 
     /** The encoding of what the bytes are as this kind, one of KINDS: CTAP2's canonical form, or compact JSON in UTF-8. */
-    rewrite: (kind, bytes) => rewriteFront(kind, bytes).bytes,
+    rewrite: (kind, bytes, asked) => rewriteFront(kind, bytes, asked).bytes,
 
     /** What is in the bytes, which are of this kind, one of DECODED: members by their names, byte strings in base64url. */
-    decode: (kind, bytes) => decodeFront(kind, bytes).value,
+    decode: (kind, bytes, asked) => decodeFront(kind, bytes, asked).value,
 
     /** What is in the bytes, exactly, so that `encode` makes what `rewrite` does: with unknown members, and escapes of JSON. */
-    values: (kind, bytes) => valuesFront(kind, bytes).value,
+    values: (kind, bytes, asked) => valuesFront(kind, bytes, asked).value,
   };
 }

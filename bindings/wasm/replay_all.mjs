@@ -1,7 +1,7 @@
 // node replay_all.mjs MODULE REQUESTS ANSWERS: requests of bindings/c/looks.c to the calls that decode, and the answers of the library in
 // C, which a module with all calls has to give too; and the same by the calls of messages.mjs.
 import { readFileSync } from "node:fs";
-import { DECODED, EXPLAINED, Fault, instantiate, KINDS, loadAll, placing } from "./messages.mjs";
+import { DECODED, EXPLAINED, Fault, instantiate, KINDS, loadAll, placing, RULES } from "./messages.mjs";
 
 const [module, requests, answers] = process.argv.slice(2).map((it) => readFileSync(it));
 const calls = await instantiate(module), put = placing(calls), all = await loadAll(module);
@@ -25,15 +25,20 @@ function answer(name, kind, room, bytes) {
 
 /** Returns whether messages.mjs says the same. */
 function isSame(name, kind, bytes, { status, words }) {
-  const word = KINDS[kind - 1], kinds = { rewrite: KINDS, json: DECODED, explain: EXPLAINED, values: KINDS }[name];
+  const word = KINDS[(kind % 256) - 1], kinds = { rewrite: KINDS, json: DECODED, explain: EXPLAINED, values: KINDS }[name];
+  const flags = Math.floor(kind / 256), asked = { canonical: (flags & 1) !== 0, fourLevels: (flags & 2) !== 0, allBytes: (flags & 4) !== 0 };
+  if (flags > 7) return status === 3;
   try {
-    const made = { rewrite: all.rewriteFront, json: all.decodeFront, explain: all.explain, values: all.valuesFront }[name](word, bytes);
+    const made = { rewrite: all.rewriteFront, json: all.decodeFront, explain: all.explain, values: all.valuesFront }[name](word, bytes, asked);
     if (name === "values" && hexOf(all.encode(word, made.value)) !== hexOf(all.rewrite(word, bytes))) return false;
     if (name !== "explain") return status <= 1 && made.read === words[0];
     if (made === null) return status === 0;
     return status >= 16 && made.offset === words[2] && made.length === words[3] && made.explanation.length === words[1];
   } catch (error) {
-    if (error instanceof Fault) return status >= 16 && (error.member === null || error.member === status >> 8);
+    if (error instanceof Fault) {
+      const second = error.rule === null ? error.member : RULES.indexOf(error.rule) + 1;
+      return status >= 16 && (second === null || second === status >> 8);
+    }
     return error instanceof RangeError && !kinds.includes(word) && status === 3;
   }
 }

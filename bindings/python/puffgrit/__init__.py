@@ -52,6 +52,7 @@ _FAULTS = {
     25: "Float",
     26: "BadJson",
     27: "NoItem",
+    28: "NotCanonical",
 }
 
 
@@ -88,6 +89,8 @@ class Fault(ValueError):
         self.name: str = name
         #: The number of the message's member that it is about.
         self.member: int | None = member
+        #: Of `NotCanonical` the rule that is broken, one of `RULES`.
+        self.rule: str | None = None
 
 
 @dataclass(frozen=True)
@@ -249,9 +252,14 @@ def _number(kind: str, kinds: list[str] = KINDS) -> int:
     return KINDS.index(kind) + 1
 
 
-def _written(call: Callable[..., int], kind: str, data: bytes) -> tuple[bytes, int]:
+def _flags(canonical: bool, four_levels: bool, all_bytes: bool) -> int:
+    """What is added to a kind's number."""
+    return (0x100 if canonical else 0) + (0x200 if four_levels else 0) + (0x400 if all_bytes else 0)
+
+
+def _written(call: Callable[..., int], kind: str, data: bytes, flags: int) -> tuple[bytes, int]:
     """What the call writes, and how many bytes it read; an output that is too short is replaced by one that isn't."""
-    number, room = _number(kind), len(_checked(data)) + 256
+    number, room = _number(kind) + flags, len(_checked(data)) + 256
     read, length = ctypes.c_size_t(), ctypes.c_size_t()
     while True:
         out = ctypes.create_string_buffer(room)
@@ -263,34 +271,45 @@ def _written(call: Callable[..., int], kind: str, data: bytes) -> tuple[bytes, i
         return out.raw[: length.value], read.value
     if status == 2:
         raise MemoryError("puffgrit")
-    raise explain(kind, data) or _fault(status)
+    raise _explained(kind, data, flags) or _fault(status)
 
 
 def _fault(status: int) -> Fault:
-    name = status & 255
-    return Fault(_FAULTS[name], status >> 8 if name in (19, 20, 21) and status >> 8 else None)
+    name, second = status & 255, status >> 8
+    fault = Fault(_FAULTS[name], second if name in (19, 20, 21) and second else None)
+    fault.rule = RULES[second - 1] if name == 28 else None
+    return fault
 
 
-def rewrite(kind: str, data: bytes) -> bytes:
+def rewrite(kind: str, data: bytes, *, canonical: bool = False, four_levels: bool = False, all_bytes: bool = False) -> bytes:
     """Decodes the data as the kind (one of `KINDS`), and returns its encoding: CTAP2's canonical form, or compact JSON.
 
     Raises `Fault` if the kind rejects the data, and `MemoryError`. Bytes after a data item, a message or authenticator data are
     ignored: `rewrite_front` tells where they begin.
+
+    Data that the kind accepts are refused, too, with the fault `NotCanonical` and its `rule`, where more is asked: that the data item is
+    in CTAP2's canonical form (`canonical`), that arrays, maps and tags are inside one another at no more than four levels
+    (`four_levels`), or that no bytes follow (`all_bytes`). Of authenticator data, structures of a TPM and JSON texts only the last is.
     """
-    return rewrite_front(kind, data)[0]
+    return rewrite_front(kind, data, canonical=canonical, four_levels=four_levels, all_bytes=all_bytes)[0]
 
 
-def rewrite_front(kind: str, data: bytes) -> tuple[bytes, int]:
+def rewrite_front(
+    kind: str, data: bytes, *, canonical: bool = False, four_levels: bool = False, all_bytes: bool = False
+) -> tuple[bytes, int]:
     """What `rewrite` returns, and how many bytes of the data were decoded: all of a JSON text."""
-    return _written(_library.puffgrit_rewrite, kind, data)
+    return _written(_library.puffgrit_rewrite, kind, data, _flags(canonical, four_levels, all_bytes))
 
 
-def decode(kind: str, data: bytes, *, exact: bool = False) -> Any:
+def decode(
+    kind: str, data: bytes, *, exact: bool = False, canonical: bool = False, four_levels: bool = False, all_bytes: bool = False
+) -> Any:
     """What is in the data, which is of the kind (one of `DECODED`): a message, a key, authenticator data or a record
     as a dictionary.
 
     Members have their names, also those of authenticator data, keys and attestation statements inside a message; byte strings are
-    base64url without padding, AAGUIDs are UUIDs, and algorithms and flags have their names. Raises what `rewrite` raises.
+    base64url without padding, AAGUIDs are UUIDs, and algorithms and flags have their names. Raises what `rewrite` raises, and asks for
+    `canonical`, `four_levels` and `all_bytes` as it does.
 
     If it is exact, of any kind, nothing is lost, and `encode` makes what `rewrite` makes of the data: byte strings are `bytes`, AAGUIDs
     `uuid.UUID`, integers `int`, floats of 64 bits `float`; members of a message's tables and parameters of a key have their names, and
@@ -300,13 +319,16 @@ def decode(kind: str, data: bytes, *, exact: bool = False) -> Any:
     an array, a map whose keys aren't in CTAP2's order or that has a key twice, a message that has a name where its table has a number,
     and what is inside 60 arrays and maps.
     """
-    return decode_front(kind, data, exact=exact)[0]
+    return decode_front(kind, data, exact=exact, canonical=canonical, four_levels=four_levels, all_bytes=all_bytes)[0]
 
 
-def decode_front(kind: str, data: bytes, *, exact: bool = False) -> tuple[Any, int]:
+def decode_front(
+    kind: str, data: bytes, *, exact: bool = False, canonical: bool = False, four_levels: bool = False, all_bytes: bool = False
+) -> tuple[Any, int]:
     """What `decode` returns, and how many bytes of the data were decoded."""
     _number(kind, KINDS if exact else DECODED)
-    text, read = _written(_library.puffgrit_values if exact else _library.puffgrit_json, kind, data)
+    flags = _flags(canonical, four_levels, all_bytes)
+    text, read = _written(_library.puffgrit_values if exact else _library.puffgrit_json, kind, data, flags)
     told = json.loads(text)
     return (_exact(kind, told, data[:read]) if exact else told), read
 
@@ -445,9 +467,16 @@ def _name(key: Any) -> str:
     raise TypeError(f"a key of puffgrit isn't of the type {type(key).__name__}")
 
 
-def explain(kind: str, data: bytes) -> Fault | None:
-    """Why the data is rejected as the kind (one of `EXPLAINED`), or `None` if it isn't. Raises `MemoryError`."""
-    number, room = _number(kind), 1024
+def explain(
+    kind: str, data: bytes, *, canonical: bool = False, four_levels: bool = False, all_bytes: bool = False
+) -> Fault | None:
+    """Why the data is rejected as the kind (one of `EXPLAINED`), or isn't as is asked (see `rewrite`), or `None` if neither. Raises
+    `MemoryError`."""
+    return _explained(kind, data, _flags(canonical, four_levels, all_bytes))
+
+
+def _explained(kind: str, data: bytes, flags: int) -> Fault | None:
+    number, room = _number(kind) + flags, 1024
     read, length, refusal = ctypes.c_size_t(), ctypes.c_size_t(), _c.Refusal()
     given = (number, _checked(data), len(data), ctypes.byref(read), ctypes.byref(refusal))
     while True:

@@ -83,6 +83,28 @@ class Puffgrit(unittest.TestCase):
         with self.assertRaises(ValueError):
             puffgrit.rewrite("key", b"")
 
+    def test_strictness(self):
+        # CTAP 2.2, section 8: heads that are longer than need be, five levels, and bytes after the item
+        for given, asked, rule, offset, length in [
+            ("811801", "canonical", "ShortestHead", 1, 2),
+            ("8181818180", "four_levels", "Levels", 4, 1),
+            ("0102ff", "all_bytes", "NothingAfter", 1, 2),
+        ]:
+            data = bytes.fromhex(given)
+            others = {it: True for it in ("canonical", "four_levels", "all_bytes") if it != asked}
+            self.assertIsNone(puffgrit.explain("cbor", data))
+            self.assertIsNone(puffgrit.explain("cbor", data, **others))
+            for call in [puffgrit.rewrite, puffgrit.decode, lambda *words, **more: puffgrit.decode(*words, exact=True, **more)]:
+                call("cbor", data, **others)
+                with self.assertRaises(puffgrit.Fault) as caught:
+                    call("cbor", data, **{asked: True})
+                fault = caught.exception
+                self.assertEqual((fault.name, fault.rule, fault.member, fault.offset, fault.length), ("NotCanonical", rule, None, offset, length))
+        # the first fault of the kind comes first, and of authenticator data only the end is asked
+        self.assertEqual(puffgrit.explain("info", bytes.fromhex("a11801f5"), canonical=True).name, "Refused")
+        self.assertIsNone(puffgrit.explain("auth", bytes(38), canonical=True, four_levels=True))
+        self.assertEqual(puffgrit.explain("auth", bytes(38), all_bytes=True).explanation, "bytes follow the data item (offset 37)")
+
     def test_threads(self):
         # calls from eight threads at once, which hold no lock of Python's: RFC 8949, appendix A, and an array of one number each
         def rewritten(number):

@@ -66,6 +66,43 @@ extern "C" {
     ) -> u32;
 }
 
+/// A kind, and what is asked of an input beside that the kind accepts it: of data items all three, of
+/// authenticator data, structures of a TPM and JSON texts only that no bytes follow.
+///
+/// ```
+/// use puffgrit::{rewrite, Asked, Kind};
+///
+/// let mut out = [0; 8];
+/// let strict = Asked::from(Kind::Cbor).canonical_only().all_bytes();
+/// assert!(rewrite(strict, b"\x81\x01", &mut out).is_ok());
+/// assert!(rewrite(strict, b"\x81\x18\x01", &mut out).is_err());
+/// ```
+#[derive(Clone, Copy, Debug, PartialEq, Eq)]
+pub struct Asked(u32);
+
+impl From<Kind> for Asked {
+    fn from(kind: Kind) -> Asked {
+        Asked(kind as u32)
+    }
+}
+
+impl Asked {
+    /// The data item is in CTAP2's canonical form (CTAP 2.2, section 8).
+    pub fn canonical_only(self) -> Asked {
+        Asked(self.0 | 0x100)
+    }
+
+    /// Arrays, maps and tags are inside one another at no more than four levels.
+    pub fn four_levels(self) -> Asked {
+        Asked(self.0 | 0x200)
+    }
+
+    /// No bytes follow what is decoded.
+    pub fn all_bytes(self) -> Asked {
+        Asked(self.0 | 0x400)
+    }
+}
+
 /// What was decoded, and what was written of it.
 #[derive(Clone, Copy, Debug, PartialEq, Eq)]
 pub struct Lengths {
@@ -86,11 +123,11 @@ pub fn version() -> u32 {
 /// Decodes the input as the kind, and writes its encoding to the beginning of the output: CTAP2's
 /// canonical form (CTAP 2.1, section 8), or compact JSON. Bytes after a data item, a message or
 /// authenticator data are ignored, and don't count as read.
-pub fn rewrite(kind: Kind, input: &[u8], out: &mut [u8]) -> Result<Lengths, Error> {
+pub fn rewrite(kind: impl Into<Asked>, input: &[u8], out: &mut [u8]) -> Result<Lengths, Error> {
     let (mut read, mut len) = (0, 0);
     let (given, start, room) = (input.as_ptr(), out.as_mut_ptr(), out.len());
     // SAFETY: a slice's pointer isn't null, and is readable for its length; no output overlaps another buffer.
-    let status = unsafe { puffgrit_rewrite(kind as u32, given, input.len(), &mut read, start, room, &mut len) };
+    let status = unsafe { puffgrit_rewrite(kind.into().0, given, input.len(), &mut read, start, room, &mut len) };
     lengths(status, read, len)
 }
 
@@ -105,22 +142,22 @@ fn lengths(status: u32, read: usize, len: usize) -> Result<Lengths, Error> {
 /// Decodes the input as the kind, and writes what is in it as compact JSON to the beginning of the
 /// output: members by their names, also those of authenticator data, keys and attestation statements
 /// inside a message, and byte strings in base64url without padding.
-pub fn json(kind: Kind, input: &[u8], out: &mut [u8]) -> Result<Lengths, Error> {
+pub fn json(kind: impl Into<Asked>, input: &[u8], out: &mut [u8]) -> Result<Lengths, Error> {
     let (mut read, mut len) = (0, 0);
     let (given, start, room) = (input.as_ptr(), out.as_mut_ptr(), out.len());
     // SAFETY: as for `rewrite`.
-    let status = unsafe { puffgrit_json(kind as u32, given, input.len(), &mut read, start, room, &mut len) };
+    let status = unsafe { puffgrit_json(kind.into().0, given, input.len(), &mut read, start, room, &mut len) };
     lengths(status, read, len)
 }
 
 /// Writes what the kind accepts at the beginning of the input as JSON that stands for it to the
 /// beginning of the output, so that [`encode`] encodes it again: a message with its unknown members,
 /// authenticator data by their parts, a COSE key by its parameters.
-pub fn values(kind: Kind, input: &[u8], out: &mut [u8]) -> Result<Lengths, Error> {
+pub fn values(kind: impl Into<Asked>, input: &[u8], out: &mut [u8]) -> Result<Lengths, Error> {
     let (mut read, mut len) = (0, 0);
     let (given, start, room) = (input.as_ptr(), out.as_mut_ptr(), out.len());
     // SAFETY: as for `rewrite`.
-    let status = unsafe { puffgrit_values(kind as u32, given, input.len(), &mut read, start, room, &mut len) };
+    let status = unsafe { puffgrit_values(kind.into().0, given, input.len(), &mut read, start, room, &mut len) };
     lengths(status, read, len)
 }
 
@@ -168,11 +205,11 @@ pub enum Verdict<'a> {
 }
 
 /// Explains why the input is rejected as the kind, with a text in the output.
-pub fn explain<'a>(kind: Kind, input: &[u8], out: &'a mut [u8]) -> Result<Verdict<'a>, Error> {
+pub fn explain<'a>(kind: impl Into<Asked>, input: &[u8], out: &'a mut [u8]) -> Result<Verdict<'a>, Error> {
     let (mut read, mut len, mut refusal) = (0, 0, Refusal::default());
     let (given, start, room) = (input.as_ptr(), out.as_mut_ptr(), out.len());
     // SAFETY: as for `rewrite`.
-    let status = unsafe { puffgrit_explain(kind as u32, given, input.len(), &mut read, &mut refusal, start, room, &mut len) };
+    let status = unsafe { puffgrit_explain(kind.into().0, given, input.len(), &mut read, &mut refusal, start, room, &mut len) };
     if status == 0 {
         return Ok(Verdict::Accepted(read));
     }
@@ -187,6 +224,7 @@ pub fn explain<'a>(kind: Kind, input: &[u8], out: &'a mut [u8]) -> Result<Verdic
 #[cfg(test)]
 mod tests {
     use super::*;
+    use crate::Rule;
 
     #[test]
     fn versions() {
@@ -201,6 +239,20 @@ mod tests {
         assert_eq!(rewrite(Kind::Cbor, &[0x81, 0x01], &mut out[..1]), Err(Error::TooShort(2)));
         assert_eq!(rewrite(Kind::GetAssertionRequest, &[0xa0], &mut out), Err(Error::Rejected { fault: Fault::Missing, member: Some(1) }));
         assert_eq!(rewrite(Kind::Request, b"{", &mut out), Err(Error::Rejected { fault: Fault::BadJson, member: None }));
+    }
+
+    #[test]
+    fn asks() {
+        let mut out = [0; 80];
+        let kind = Asked::from(Kind::Cbor);
+        let refused = |rule| Err(Error::Rejected { fault: Fault::NotCanonical(Some(rule)), member: None });
+        assert_eq!(rewrite(kind.canonical_only(), b"\x81\x18\x01", &mut out), refused(Rule::ShortestHead));
+        assert_eq!(json(kind.four_levels(), b"\x81\x81\x81\x81\x80", &mut out), refused(Rule::Levels));
+        assert_eq!(values(kind.all_bytes(), b"\x01\x02", &mut out), refused(Rule::NothingAfter));
+        assert_eq!(rewrite(kind.four_levels().all_bytes(), b"\x81\x18\x01", &mut out), Ok(Lengths { read: 3, written: 2 }));
+        let Ok(Verdict::Rejected(told)) = explain(kind.canonical_only(), b"\x81\x18\x01", &mut out) else { panic!("accepted") };
+        assert_eq!((told.fault, told.refusal), (Fault::NotCanonical(Some(Rule::ShortestHead)), Refusal { offset: 1, len: 2 }));
+        assert_eq!(told.text, "this number or length could be encoded in fewer bytes (offset 1)");
     }
 
     #[test]

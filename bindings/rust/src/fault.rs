@@ -1,5 +1,6 @@
 //! Why inputs are rejected.
 
+use crate::Rule;
 use core::fmt;
 
 /// The first fault of an input (docs/FAULTS.md).
@@ -31,13 +32,16 @@ pub enum Fault {
     BadJson,
     /// A value of the JSON is no data item.
     NoItem,
+    /// The kind accepts the input, but it isn't as is asked ([`Asked`](crate::Asked)), by this rule;
+    /// `None` for one that this crate doesn't know.
+    NotCanonical(Option<Rule>),
     /// A fault that this crate doesn't know, by its status in puffgrit.h.
     Other(u8),
 }
 
 impl Fault {
-    /// The fault with this status in puffgrit.h (`PUFFGRIT_FAULT_..`).
-    pub(crate) fn from_status(status: u8) -> Fault {
+    /// The fault with this status in puffgrit.h (`PUFFGRIT_FAULT_..`), and this second byte.
+    pub(crate) fn from_status(status: u8, second: u8) -> Fault {
         match status {
             16 => Fault::DecodeFailed,
             17 => Fault::NotAMap,
@@ -51,6 +55,7 @@ impl Fault {
             25 => Fault::Float,
             26 => Fault::BadJson,
             27 => Fault::NoItem,
+            28 => Fault::NotCanonical(Rule::numbered(second.into())),
             other => Fault::Other(other),
         }
     }
@@ -87,7 +92,10 @@ impl Error {
         match first {
             2 => Error::OutOfMemory,
             3 => Error::UnknownKind,
-            _ => Error::Rejected { fault: Fault::from_status(first), member: (second != 0).then_some(second) },
+            _ => Error::Rejected {
+                fault: Fault::from_status(first, second),
+                member: (second != 0 && first != 28).then_some(second),
+            },
         }
     }
 }
@@ -124,6 +132,7 @@ mod tests {
             (26, "the input is rejected: BadJson"),
             (27, "the input is rejected: NoItem"),
             (20 + 256 * 3, "the input is rejected: Refused(3)"),
+            (28 + 256 * 4, "the input is rejected: NotCanonical(Some(NoTag))"),
             (99, "the input is rejected: Other(99)"),
         ] {
             let error: Box<dyn core::error::Error> = Box::new(Error::from_status(status));

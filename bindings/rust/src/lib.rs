@@ -100,8 +100,7 @@ pub fn not_canonical(bytes: &[u8], levels: usize) -> Option<NotCanonical> {
     let mut offset = 0;
     // SAFETY: as above, and the offset can be written.
     let number = unsafe { puffgrit_not_canonical(bytes.as_ptr(), bytes.len(), levels, &mut offset) };
-    let rule = *Rule::ALL.get((number as usize).checked_sub(1)?)?;
-    Some(NotCanonical { rule, offset })
+    Rule::numbered(number).map(|rule| NotCanonical { rule, offset })
 }
 
 /// The data item at the offset.

@@ -2,7 +2,7 @@
 
 /// A rule of CTAP2's canonical form (CTAP 2.2, section 8).
 #[repr(u32)]
-#[derive(Clone, Copy, Debug, PartialEq, Eq)]
+#[derive(Clone, Copy, Debug, PartialEq, Eq, Hash)]
 pub enum Rule {
     /// The bytes are well-formed (RFC 8949, section 3).
     WellFormed = 1,
@@ -25,16 +25,19 @@ pub enum Rule {
 }
 
 impl Rule {
-    /// The rules, by their numbers in C from 1 on.
-    pub(crate) const ALL: &'static [Rule] = &[
-        Rule::WellFormed,
-        Rule::ShortestHead,
-        Rule::DefiniteLength,
-        Rule::NoTag,
-        Rule::NoUndefined,
-        Rule::AscendingKeys,
-        Rule::DistinctKeys,
-        Rule::Levels,
-        Rule::NothingAfter,
-    ];
+    /// The rule with this number in C, from 1 on.
+    pub(crate) fn numbered(number: u32) -> Option<Rule> {
+        match number {
+            1 => Some(Rule::WellFormed),
+            2 => Some(Rule::ShortestHead),
+            3 => Some(Rule::DefiniteLength),
+            4 => Some(Rule::NoTag),
+            5 => Some(Rule::NoUndefined),
+            6 => Some(Rule::AscendingKeys),
+            7 => Some(Rule::DistinctKeys),
+            8 => Some(Rule::Levels),
+            9 => Some(Rule::NothingAfter),
+            _ => None,
+        }
+    }
 }

@@ -1,3 +1,4 @@
 pub mod Writing
 pub mod Explaining
 pub mod Encoding
+pub mod Asking

@@ -4,7 +4,7 @@ use Rattle.passkey_attestation.specs.declared.fault.StatementFault.{StatementFau
 use Rattle.passkey_attestation.specs.declared.fault.StatementFault.TheVariants.{Member}
 use Rattle.passkey_attestation.specs.declared.format.AttestationFormat.{AttestationFormat}
 use Rattle.passkey_cbor.specs.Item.{Item}
-use Rattle.passkey_cbor.specs.LeadingItem.{IsLeadingItem}
+use Rattle.passkey_cbor.specs.LeadingItem.{HasNoLeadingItem, IsLeadingItem}
 use Rattle.passkey_explain.specs.Along.{LiesAlong}
 use Rattle.passkey_explain.specs.Explains.{Explains}
 use Rattle.passkey_explain.specs.Texts.{explanation_text, extent_text}
@@ -28,8 +28,13 @@ use Rattle.passkey_kinds.specs.Message.{Begins}
 use Rattle.passkey_kinds.specs.Record.{Fields}
 use Rattle.passkey_kinds.specs.declared.fault.Fault.{Fault}
 use Rattle.passkey_kinds.specs.declared.fault.Fault.TheVariants.{DecodeFailed}
+use Rattle.passkey_malformed.specs.Rules.{not_canonical_text}
 use Rattle.passkey_malformed.specs.Stops.{IsMalformed}
 use Rattle.passkey_malformed.specs.Why.{malformed_text}
+use Rattle.passkey_malformed.specs.declared.demands.Demands.{Demands}
+use Rattle.passkey_malformed.specs.declared.rule.NotCanonical.{NotCanonical}
+use Rattle.passkey_malformed.specs.declared.rule.Rule.{Rule}
+use Rattle.passkey_malformed.specs.declared.rule.Rule.TheVariants as rule
 use Rattle.passkey_malformed.specs.declared.why.Malformed.{Malformed}
 use Rattle.passkey_catalogue.specs.Catalogue.{definition}
 use Rattle.passkey_catalogue.specs.declared.form.Form.{Form}
@@ -41,8 +46,10 @@ use Rattle.passkey_tpm.specs.CertInfo.{cert_info_refusal}
 use Rattle.passkey_tpm.specs.PubArea.{pub_area_refusal}
 use Rattle.passkey_tpm.specs.Texts.{refusal_text}
 use Rattle.passkey_tpm.specs.declared.refusal.TpmRefusal.{TpmRefusal}
+use Rattle.passkey_c.specs.Asked.{IsUnmetIn, MeetsAsked, is_item}
 use Rattle.passkey_c.specs.ExplainingJson.{AcceptsJson, TellsJson}
-use Rattle.passkey_c.specs.Statuses.{data_status, message_status, statement_status}
+use Rattle.passkey_c.specs.Statuses.{data_status, denial_status, message_status, statement_status}
+use Rattle.passkey_c.specs.declared.status.Denial.TheVariants as denial
 use Rattle.passkey_c.specs.declared.verdict.Refusal.{Refusal}
 use Rattle.passkey_c.specs.declared.verdict.Verdict.{Verdict}
 use Rattle.passkey_c.specs.declared.verdict.Verdict.TheVariants as verdict
@@ -253,7 +260,38 @@ Tells authenticator = TellsData
 Tells (message t tree) = TellsMessage t
 Tells (other f) = TellsForm f
 
-abbrev pub ExplainsAs : Option Kind → List ℕ → Memory → Memory → ℕ → Type 0
-ExplainsAs (Some kind) input old new status =
-    let d = definition kind in Explaining (Accepts d input) (Tells d input) old new status
-ExplainsAs None input old new status = IsUnknown old new status
+-- ---- what more is asked
+
+-- How many of the bytes from where a rule is broken break it: the data item there, or all that follow one.
+abbrev pub IsBreachLength : Rule → List ℕ → ℕ → Type 0
+IsBreachLength rule.NothingAfter rest n = n ≡ length rest
+IsBreachLength r rest n = IsFrontLength rest n ⊎ (HasNoLeadingItem rest × (n ≡ length rest))
+
+-- Where and by which rule the input isn't as is asked.
+pub record TellsBreach (input : List ℕ) (found : NotCanonical) (status : ℕ) (refusal : Refusal) (text : List ℕ) : Type 0
+  where
+    pub fault : status ≡ denial_status (denial.NotCanonical found.rule)
+    pub offset : refusal.offset ≡ found.offset
+    pub len : IsBreachLength found.rule (drop found.offset input) refusal.len
+    pub says : text ≡ not_canonical_text found
+
+-- The kind accepts the input, which isn't as is asked.
+pub record TellsUnmet (demands : Option Demands) (d : Definition Form) (input : List ℕ) (status : ℕ) (refusal : Refusal)
+    (text : List ℕ) : Type 0 where
+  pub read : ℕ
+  pub accepts : Accepts d input read
+  pub found : NotCanonical
+  pub unmet : IsUnmetIn demands (is_item d) input read found
+  pub tells : TellsBreach input found status refusal text
+
+abbrev pub AcceptsAsked : Option Demands → Definition Form → List ℕ → ℕ → Type 0
+AcceptsAsked demands d input n = Accepts d input n × MeetsAsked demands (is_item d) input n
+
+abbrev pub TellsAsked : Option Demands → Definition Form → List ℕ → ℕ → Refusal → List ℕ → Type 0
+TellsAsked demands d input status refusal text =
+    Tells d input status refusal text ⊎ TellsUnmet demands d input status refusal text
+
+abbrev pub ExplainsAs : Option Kind → Option Demands → List ℕ → Memory → Memory → ℕ → Type 0
+ExplainsAs (Some kind) demands input old new status =
+    let d = definition kind in Explaining (AcceptsAsked demands d input) (TellsAsked demands d input) old new status
+ExplainsAs None demands input old new status = IsUnknown old new status

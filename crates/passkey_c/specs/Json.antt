@@ -10,13 +10,15 @@ use Rattle.passkey_kinds.specs.Message.{Begins}
 use Rattle.passkey_kinds.specs.Record.{Fields, read_item}
 use Rattle.passkey_kinds.specs.RecordReading.{shape_of}
 use Rattle.passkey_kinds.specs.declared.wanted.Wanted.TheVariants as wanted
+use Rattle.passkey_malformed.specs.declared.demands.Demands.{Demands}
 use Rattle.passkey_render.specs.Json.{json_text}
 use Rattle.passkey_render.specs.Opened.{opened}
 use Rattle.passkey_rewrite.specs.Definition.{Definition, authenticator, item, message, other}
 use Rattle.passkey_rewrite.specs.Rewriting.{IsRefusalAs}
 use Rattle.passkey_rewrite.specs.declared.fault.RunFault.{RunFault}
 use Rattle.passkey_rewrite.specs.declared.fault.RunFault.TheVariants.{UnknownKind}
-use Rattle.passkey_c.specs.Writing.{Outputs, Writes, IsUnknown}
+use Rattle.passkey_c.specs.Asked.{WritesAsked, is_item}
+use Rattle.passkey_c.specs.Writing.{Outputs, IsUnknown}
 use Rattle.passkey_catalogue.specs.Catalogue.{definition}
 use Rattle.passkey_catalogue.specs.Rewriting.{EncodesForm, IsFormLength, IsKeyRefusal, RefusesForm}
 use Rattle.passkey_catalogue.specs.declared.form.Form.{Form}
@@ -69,7 +71,8 @@ IsJson (other f) = IsFormJson f
 abbrev pub HasNoJson : Definition Form → List ℕ → RunFault → Type 0
 HasNoJson d = IsRefusalAs HasNoFormJson d
 
-abbrev pub ShowsJson : Option Kind → List ℕ → Outputs → Outputs → ℕ → Type 0
-ShowsJson (Some kind) input old new status =
-    Writes (IsJson (definition kind) input) (HasNoJson (definition kind) input) old new status
-ShowsJson None input old new status = IsUnknown old new status
+abbrev pub ShowsJson : Option Kind → Option Demands → List ℕ → Outputs → Outputs → ℕ → Type 0
+ShowsJson (Some kind) demands input old new status =
+    let d = definition kind in
+    WritesAsked (IsJson d input) (HasNoJson d input) demands (is_item d) input old new status
+ShowsJson None demands input old new status = IsUnknown old new status

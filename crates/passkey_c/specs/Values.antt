@@ -13,18 +13,21 @@ use Rattle.passkey_explain.specs.Explains.{Explains}
 use Rattle.passkey_explain.specs.Texts.{blame_text}
 use Rattle.passkey_explain.specs.declared.explanation.Explanation.{Explanation}
 use Rattle.passkey_explain.specs.declared.explanation.Explanation.TheVariants.{Refused}
+use Rattle.passkey_malformed.specs.declared.demands.Demands.{Demands}
 use Rattle.passkey_rewrite.specs.Definition.{Definition, authenticator, item, message, other}
 use Rattle.passkey_rewrite.specs.declared.fault.RunFault.{RunFault}
+use Rattle.passkey_c.specs.Asked.{WritesAsked, is_item}
 use Rattle.passkey_c.specs.Statuses.{status_of, values_status}
-use Rattle.passkey_c.specs.Writing.{Outputs, Writes, IsUnknown}
+use Rattle.passkey_c.specs.Writing.{Outputs, IsUnknown}
 use Rattle.passkey_c.specs.declared.encode.Unencoded.{Unencoded}
 
 -- ---- the values of an input
 
-abbrev pub WritesValues : Option Kind → List ℕ → Outputs → Outputs → ℕ → Type 0
-WritesValues (Some kind) input old new status =
-    Writes (ShowsValues (definition kind) input) (IsRefusal (definition kind) input) old new status
-WritesValues None input old new status = IsUnknown old new status
+abbrev pub WritesValues : Option Kind → Option Demands → List ℕ → Outputs → Outputs → ℕ → Type 0
+WritesValues (Some kind) demands input old new status =
+    let d = definition kind in
+    WritesAsked (ShowsValues d input) (IsRefusal d input) demands (is_item d) input old new status
+WritesValues None demands input old new status = IsUnknown old new status
 
 -- ---- what values are encoded as
 

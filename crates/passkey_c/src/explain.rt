@@ -1,20 +1,23 @@
 //! Why inputs are refused, for C.
-ghost use Rattle.std.specs.Prelude.{◌≡◌, ℕ, IfOk, Some, string_bytes};
+ghost use Rattle.std.specs.Prelude.{◌≡◌, ◌≤◌, ℕ, IfOk, Some, drop, length, string_bytes};
 ghost use Rattle.passkey_cbor.specs.Item.{Item};
 ghost use Rattle.passkey_cbor.specs.LeadingItem.{HasNoLeadingItem, IsLeadingItem};
+ghost use Rattle.passkey_c.specs.Asked.{demands_in, kind_in};
+ghost use Rattle.passkey_c.specs.Explaining.{AcceptsAsked, IsBreachLength, TellsAsked, TellsBreach};
 ghost use Rattle.passkey_c.specs.Explaining.{Accepts, AcceptsData, AcceptsForm, AcceptsKey, AcceptsMessage, AcceptsStatement};
 ghost use Rattle.passkey_c.specs.Explaining.{AcceptsStructure, ExplainsAs, IsVerdict, Tells, TellsData, TellsForm, TellsItem};
 ghost use Rattle.passkey_c.specs.Explaining.{TellsKey, TellsMessage, TellsNoKey, TellsStatement, TellsStructure, bytes_in};
 ghost use Rattle.passkey_c.specs.Explaining.{fault_of, refusal_in, refusal_of, refused_in_front, statement_fault_of};
 ghost use Rattle.passkey_c.specs.Explaining.{statement_refusal_of, structure_refusal};
-ghost use Rattle.passkey_catalogue.specs.Catalogue.{definition, kind_numbered};
+ghost use Rattle.passkey_catalogue.specs.Catalogue.{definition};
 ghost use Rattle.passkey_explain_data.specs.KeyBlame.{key_blame};
 ghost use Rattle.passkey_rewrite.specs.Rewriting.{IsFrontLength};
 ghost use Rattle.passkey_tpm.specs.CertInfo.{cert_info_refusal};
 ghost use Rattle.passkey_tpm.specs.PubArea.{pub_area_refusal};
 
+use crate::asked::{demands_in, is_item, kind_in, unmet_in};
 use crate::explain_json::judge_json;
-use crate::status::{data_status, message_status, statement_status};
+use crate::status::{Denial, data_status, denial_status, message_status, statement_status};
 use crate::verdict::{Reason, Refusal, Verdict, refused_from, tell};
 use passkey_attestation::{AttestationFormat, StatementFault};
 use passkey_catalogue::{Form, Kind, visit};
@@ -26,7 +29,7 @@ use passkey_explain_data::{
     explain_key, explain_statement, locate_key,
 };
 use passkey_kinds::{Fault, Message};
-use passkey_malformed::malformed;
+use passkey_malformed::{Demands, NotCanonical, Rule, malformed};
 use passkey_memory::OutOfMemory;
 use passkey_rewrite::Visitor;
 use passkey_tpm::{TpmRefusal, explain_cert_info, explain_pub_area};
@@ -306,6 +309,57 @@ fn judge(alloc: Global, kind: Kind, input: &[u8]) -> Result<Verdict, OutOfMemory
     visit(kind, Judging { alloc, input })
 }
 
+/// Returns which bytes of an input break the rule: the data item or the map key at the offset; of
+/// trailing bytes all.
+fn breach_in(found: NotCanonical, input: &[u8]) -> Refusal
+    requires { found.offset ≤ length input.now }
+    ensures offset { result.offset ≡ found.offset }
+    ensures len { IsBreachLength found.rule (drop found.offset input.now) result.len }
+{
+    let rest = &input[found.offset..];
+    let len = match found.rule {
+        Rule::NothingAfter => rest.len(),
+        _ => item_len(rest).unwrap_or(rest.len()),
+    };
+    Refusal {
+        offset: found.offset,
+        len,
+    }
+}
+
+/// Says where the input, which its kind accepts, isn't as is asked, and by which rule.
+fn tell_breach(alloc: Global, found: NotCanonical, input: &[u8]) -> Result<Reason, OutOfMemory>
+    requires { found.offset ≤ length input.now }
+    ensures { IfOk result
+        (λ r. TellsBreach input.now found r.status r.refusal (string_bytes r.text)) }
+{
+    let text = format!(in alloc; "{found}")?;
+    Ok(Reason {
+        status: denial_status(Denial::NotCanonical(found.rule)),
+        refusal: breach_in(found, input),
+        text,
+    })
+}
+
+fn judge_asked(
+    alloc: Global,
+    demands: Option<Demands>,
+    kind: Kind,
+    input: &[u8],
+) -> Result<Verdict, OutOfMemory>
+    ensures { IfOk result (IsVerdict (AcceptsAsked demands (definition kind) input.now)
+        (TellsAsked demands (definition kind) input.now)) }
+{
+    let read = match judge(alloc, kind, input)? {
+        Verdict::Accepted(read) => read,
+        Verdict::Refused(reason) => return Ok(Verdict::Refused(reason)),
+    };
+    match unmet_in(demands, is_item(kind), input, read) {
+        None => Ok(Verdict::Accepted(read)),
+        Some(found) => Ok(Verdict::Refused(tell_breach(alloc, found, input)?)),
+    }
+}
+
 /// Explains why the input is refused as this kind. Returns PUFFGRIT_OK if it is accepted, with how
 /// many of its bytes were decoded in `read`, as puffgrit_rewrite; the status of its fault, as
 /// puffgrit_rewrite; PUFFGRIT_OUT_OF_MEMORY if an allocation fails; or PUFFGRIT_UNKNOWN_KIND.
@@ -314,7 +368,8 @@ fn judge(alloc: Global, kind: Kind, input: &[u8]) -> Result<Verdict, OutOfMemory
 /// key, that its table refuses; of authenticator data the part, or what in the credential public key;
 /// of a COSE key the label or the value that is no key's; of an attestation statement the data item
 /// or map key that its format refuses; of a structure of a TPM the field; or the bytes from where
-/// they aren't well-formed; of a JSON text all of it. And a text is written to the beginning of `out`,
+/// they aren't well-formed; of a JSON text all of it; and of what isn't as the flags ask (see
+/// puffgrit_rewrite) the data item or the map key that breaks the rule, or the trailing bytes. And a text is written to the beginning of `out`,
 /// or as much of it as there is room for, and its whole length to `len`. It says where these bytes are
 /// and what is wanted there, as "user.id: a byte string is wanted (offset 58, length 10)"; of a JSON
 /// text it names the value, as "publicKey.timeout: an integer from 0 to 4294967295 is wanted". It is
@@ -332,12 +387,16 @@ pub extern "C" fn puffgrit_explain(
     out: &mut [u8],
     len: &mut usize,
 ) -> u32
-    ensures { ExplainsAs (kind_numbered kind) input.now
+    ensures { ExplainsAs (kind_in kind) (demands_in kind) input.now
         (record { read = read.old; refusal = refusal.old; text = out.old; len = len.old })
         (record { read = read.new; refusal = refusal.new; text = out.new; len = len.new }) result }
 {
-    match Kind::from_number(kind as usize) {
-        Some(kind) => tell(judge(alloc, kind, input), read, refusal, out, len),
+    let demands = demands_in(kind);
+    match kind_in(kind) {
+        Some(kind) => {
+            let verdict = judge_asked(alloc, demands, kind, input);
+            tell(verdict, read, refusal, out, len)
+        }
         None => 3,
     }
 }

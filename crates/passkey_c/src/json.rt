@@ -1,13 +1,15 @@
 //! What is in an input, as JSON, for C.
 ghost use Rattle.std.specs.Prelude.{◌≡◌, IfOk, IfErr};
+ghost use Rattle.passkey_c.specs.Asked.{demands_in, kind_in};
 ghost use Rattle.passkey_c.specs.Json.{HasNoFormJson, HasNoJson, IsDataJson, IsFormJson, IsItemJson, IsJson, IsKeyJson, IsMessageJson, ShowsJson};
-ghost use Rattle.passkey_catalogue.specs.Catalogue.{definition, kind_numbered};
+ghost use Rattle.passkey_catalogue.specs.Catalogue.{definition};
 ghost use Rattle.passkey_catalogue.specs.Rewriting.{IsKeyRefusal};
 ghost use Rattle.passkey_explain.specs.Described.{described_of};
 ghost use Rattle.passkey_kinds.specs.Record.{read_item};
 ghost use Rattle.passkey_render.specs.Json.{json_text};
 ghost use Rattle.passkey_rewrite.specs.Rewriting.{IsCborRefusal, IsDataRefusal, IsMessageRefusal};
 
+use crate::asked::{admitted, demands_in, is_item, kind_in};
 use crate::write::write;
 use passkey_catalogue::{Form, Kind, encode_form, visit};
 use passkey_cbor::{CborError, Value};
@@ -154,12 +156,21 @@ pub extern "C" fn puffgrit_json(
     out: &mut [u8],
     len: &mut usize,
 ) -> u32
-    ensures { ShowsJson (kind_numbered kind) input.now
+    ensures { ShowsJson (kind_in kind) (demands_in kind) input.now
         (record { read = read.old; out = out.old; len = len.old })
         (record { read = read.new; out = out.new; len = len.new }) result }
 {
-    match Kind::from_number(kind as usize) {
-        Some(kind) => write(json_as(alloc, kind, input), read, out, len),
+    let demands = demands_in(kind);
+    match kind_in(kind) {
+        Some(kind) => {
+            let made = json_as(alloc, kind, input);
+            write(
+                admitted(demands, is_item(kind), input, made),
+                read,
+                out,
+                len,
+            )
+        }
         None => 3,
     }
 }

@@ -5,6 +5,7 @@
 
 ghost use Rattle.std.specs.Prelude.{◌≡◌};
 
+mod asked;
 mod encode;
 mod explain;
 mod explain_json;

@@ -1,13 +1,23 @@
 //! The statuses of calls that decode.
 ghost use Rattle.std.specs.Prelude.{◌≡◌, ◌+◌, ◌*◌, ◌<◌};
-ghost use Rattle.passkey_c.specs.Statuses.{data_status, json_status, message_status, statement_status, status_of, values_status};
+ghost use Rattle.passkey_c.specs.Statuses.{data_status, denial_status, json_status, message_status, statement_status, status_of, values_status};
 
 use passkey_attestation::StatementFault;
 use passkey_catalogue::ValuesFault;
 use passkey_cose::CoseError;
 use passkey_json::JsonFault;
 use passkey_kinds::Fault;
+use passkey_malformed::Rule;
 use passkey_rewrite::RunFault;
+
+/// Why nothing is written.
+#[derive(Clone, Copy, Debug, PartialEq, Eq)]
+pub(crate) enum Denial {
+    /// The input has this fault.
+    Fault(RunFault),
+    /// It has none, but isn't as is asked, by this rule.
+    NotCanonical(Rule),
+}
 
 /// Returns the status of a fault at the member with this number.
 fn at_member(status: u32, number: u8) -> u32
@@ -84,6 +94,16 @@ pub(crate) fn status_of(fault: RunFault) -> u32
         RunFault::OutOfMemory => 2,
         RunFault::UnknownKind => 3,
         RunFault::BadHex | RunFault::InputFailed | RunFault::OutputFailed => 255,
+    }
+}
+
+/// Returns the status that says why nothing is written.
+pub(crate) fn denial_status(denial: Denial) -> u32
+    ensures { result ≡ denial_status denial }
+{
+    match denial {
+        Denial::Fault(fault) => status_of(fault),
+        Denial::NotCanonical(rule) => at_member(28, rule.number()),
     }
 }
 

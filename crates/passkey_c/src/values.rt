@@ -1,10 +1,12 @@
 //! Inputs as values of JSON, for C.
 ghost use Rattle.std.specs.Prelude.{IfOk, IfErr};
+ghost use Rattle.passkey_c.specs.Asked.{demands_in, kind_in};
 ghost use Rattle.passkey_c.specs.Values.{WritesValues};
-ghost use Rattle.passkey_catalogue.specs.Catalogue.{definition, kind_numbered};
+ghost use Rattle.passkey_catalogue.specs.Catalogue.{definition};
 ghost use Rattle.passkey_catalogue.specs.Rewriting.{IsRefusal};
 ghost use Rattle.passkey_catalogue.specs.Values.{ShowsValues};
 
+use crate::asked::{admitted, demands_in, is_item, kind_in};
 use crate::write::write;
 use passkey_catalogue::{Kind, values};
 use passkey_rewrite::RunFault;
@@ -40,12 +42,21 @@ pub extern "C" fn puffgrit_values(
     out: &mut [u8],
     len: &mut usize,
 ) -> u32
-    ensures { WritesValues (kind_numbered kind) input.now
+    ensures { WritesValues (kind_in kind) (demands_in kind) input.now
         (record { read = read.old; out = out.old; len = len.old })
         (record { read = read.new; out = out.new; len = len.new }) result }
 {
-    match Kind::from_number(kind as usize) {
-        Some(kind) => write(values_as(alloc, kind, input), read, out, len),
+    let demands = demands_in(kind);
+    match kind_in(kind) {
+        Some(kind) => {
+            let made = values_as(alloc, kind, input);
+            write(
+                admitted(demands, is_item(kind), input, made),
+                read,
+                out,
+                len,
+            )
+        }
         None => 3,
     }
 }

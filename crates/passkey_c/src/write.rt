@@ -2,8 +2,7 @@
 ghost use Rattle.std.specs.Prelude.{◌≡◌, ◌++◌, ◌≤◌, drop, length};
 ghost use Rattle.passkey_c.specs.Writing.{WritesResult};
 
-use crate::status::status_of;
-use passkey_rewrite::RunFault;
+use crate::status::{Denial, denial_status};
 
 /// Copies the bytes to the beginning of the output.
 pub(crate) fn put(out: &mut [u8], bytes: &[u8])
@@ -15,9 +14,9 @@ pub(crate) fn put(out: &mut [u8], bytes: &[u8])
 
 /// Writes the bytes that were made to the beginning of `out`, their length to `len`, and to `read` how
 /// many bytes of the input they were made from. Returns the call's status. If `out` has fewer bytes, it
-/// isn't written, and on a fault nothing is.
+/// isn't written, and on a denial nothing is.
 pub(crate) fn write(
-    made: Result<(Vec<u8>, usize), RunFault>,
+    made: Result<(Vec<u8>, usize), Denial>,
     read: &mut usize,
     out: &mut [u8],
     len: &mut usize,
@@ -28,7 +27,7 @@ pub(crate) fn write(
 {
     let (bytes, taken) = match made {
         Ok(made) => made,
-        Err(fault) => return status_of(fault),
+        Err(denial) => return denial_status(denial),
     };
     *read = taken;
     *len = bytes.len();
