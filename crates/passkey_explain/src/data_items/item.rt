@@ -1,6 +1,7 @@
 //! Data items of which nothing is known.
-ghost use Rattle.std.specs.Prelude.{◌≡◌, IfOk, map};
-ghost use Rattle.passkey_cbor.specs.View.{item_of, pair_of};
+ghost use Rattle.std.specs.Prelude.{◌≡◌, ◌++◌, ◌∷◌, [], OnOk, IfOk, map};
+ghost use Rattle.passkey_cbor.specs.Item as item;
+ghost use Rattle.passkey_cbor.specs.View.{item_of, items_view, pairs_view};
 ghost use Rattle.passkey_explain.specs.Described as spec;
 ghost use Rattle.passkey_explain.specs.Described.{described_of, labelled};
 ghost use Rattle.passkey_kinds.specs.declared.wanted.Wanted.TheVariants as wanted;
@@ -11,6 +12,7 @@ use passkey_cbor::Value;
 use passkey_kinds::Wanted;
 use passkey_memory::OutOfMemory;
 use std::alloc::Global;
+use std::mem::{forget, replace};
 
 /// Returns what is wanted after a map key of attestation statements (WebAuthn Level 3, section 8).
 fn wanted_by(key: &Value) -> Wanted
@@ -25,42 +27,109 @@ fn wanted_by(key: &Value) -> Wanted
     }
 }
 
+/// A description to be replaced, which takes no memory.
+const BLANK: Description = Description::Leaf(Wanted::Any, Value::Null);
+
+// Puts a description in a place that is blank, which needs no drop.
+#[inline(always)]
+fn put(out: &mut Description, description: Description)
+    ensures { out.new ≡ description }
+{
+    forget(replace(out, description));
+}
+
+// A description is made in the place that its caller lends, by functions that aren't inlined: a level of
+// nesting takes less of the stack.
+#[inline(never)]
+fn describe_whole(
+    alloc: Global,
+    wanted: Wanted,
+    value: &Value,
+    out: &mut Description,
+) -> Result<(), OutOfMemory>
+    ensures { OnOk result (described_of out.new ≡ spec.leaf wanted (item_of value.now)) }
+{
+    put(out, Description::Leaf(wanted, value.try_clone(alloc)?));
+    Ok(())
+}
+
+/// Appends the description of an element.
+#[inline(never)]
+fn append_element(all: &mut Vec<Description>, description: Description) -> Result<(), OutOfMemory>
+    ensures { OnOk result (all.new.items ≡ all.old.items ++ description ∷ []) }
+{
+    Ok(all.push(description)?)
+}
+
 #[cycle(described)]
-fn describe_elements(alloc: Global, elements: &[Value]) -> Result<Vec<Description>, OutOfMemory>
-    ensures { IfOk result (λ v. map described_of v.items
-        ≡ map (described_item wanted.Any) (map item_of elements.now)) }
+#[inline(never)]
+fn describe_array(
+    alloc: Global,
+    elements: &[Value],
+    out: &mut Description,
+) -> Result<(), OutOfMemory>
+    ensures { OnOk result (described_of out.new
+        ≡ described_item wanted.Any (item.array (items_view elements.now))) }
 {
     let mut all = Vec::new(alloc);
     for element in elements {
-        all.push(describe_as(alloc, Wanted::Any, element)?)?;
+        let mut description = BLANK;
+        describe_as(alloc, Wanted::Any, element, &mut description)?;
+        append_element(&mut all, description)?;
     }
-    Ok(all)
+    put(out, Description::List(all));
+    Ok(())
+}
+
+/// Appends a key and the description of its value.
+#[inline(never)]
+fn append_pair(
+    alloc: Global,
+    all: &mut Vec<(Value, Description)>,
+    key: &Value,
+    description: Description,
+) -> Result<(), OutOfMemory>
+    ensures { OnOk result (map (λ p. labelled (spec.key (item_of p.0)) (described_of p.1)) all.new.items
+        ≡ map (λ p. labelled (spec.key (item_of p.0)) (described_of p.1)) all.old.items
+        ++ labelled (spec.key (item_of key.now)) (described_of description) ∷ []) }
+{
+    Ok(all.push((key.try_clone(alloc)?, description))?)
 }
 
 #[cycle(described)]
-fn describe_pairs(
+#[inline(never)]
+fn describe_map(
     alloc: Global,
     pairs: &[(Value, Value)],
-) -> Result<Vec<(Value, Description)>, OutOfMemory>
-    ensures { IfOk result (λ v. map (λ p. labelled (spec.key (item_of p.0)) (described_of p.1)) v.items
-        ≡ map (λ m. labelled (spec.key m.0) (described_item (wanted_by m.0) m.1)) (map pair_of pairs.now)) }
+    out: &mut Description,
+) -> Result<(), OutOfMemory>
+    ensures { OnOk result (described_of out.new
+        ≡ described_item wanted.Any (item.map (pairs_view pairs.now))) }
 {
     let mut all = Vec::new(alloc);
     for (key, value) in pairs {
-        let description = describe_as(alloc, wanted_by(key), value)?;
-        all.push((key.try_clone(alloc)?, description))?;
+        let mut description = BLANK;
+        describe_as(alloc, wanted_by(key), value, &mut description)?;
+        append_pair(alloc, &mut all, key, description)?;
     }
-    Ok(all)
+    put(out, Description::Map(all));
+    Ok(())
 }
 
 #[cycle(described)]
-fn describe_as(alloc: Global, wanted: Wanted, value: &Value) -> Result<Description, OutOfMemory>
-    ensures { IfOk result (λ d. described_of d ≡ described_item wanted (item_of value.now)) }
+#[inline(always)]
+fn describe_as(
+    alloc: Global,
+    wanted: Wanted,
+    value: &Value,
+    out: &mut Description,
+) -> Result<(), OutOfMemory>
+    ensures { OnOk result (described_of out.new ≡ described_item wanted (item_of value.now)) }
 {
     match value {
-        Value::Array(elements) => Ok(Description::List(describe_elements(alloc, elements)?)),
-        Value::Map(pairs) => Ok(Description::Map(describe_pairs(alloc, pairs)?)),
-        _ => Ok(Description::Leaf(wanted, value.try_clone(alloc)?)),
+        Value::Array(elements) => describe_array(alloc, elements, out),
+        Value::Map(pairs) => describe_map(alloc, pairs, out),
+        _ => describe_whole(alloc, wanted, value, out),
     }
 }
 
@@ -69,5 +138,7 @@ fn describe_as(alloc: Global, wanted: Wanted, value: &Value) -> Result<Descripti
 pub fn describe_item(alloc: Global, value: &Value) -> Result<Description, OutOfMemory>
     ensures { IfOk result (λ d. described_of d ≡ described_item wanted.Any (item_of value.now)) }
 {
-    describe_as(alloc, Wanted::Any, value)
+    let mut description = BLANK;
+    describe_as(alloc, Wanted::Any, value, &mut description)?;
+    Ok(description)
 }

@@ -1,32 +1,39 @@
-use Rattle.std.proofs.Common.{◌∙◌, List, map, sym, ap}
-use Rattle.passkey_cbor.proofs.building.Views.{item_of-Array, item_of-Map}
-use Rattle.passkey_cbor.specs.Item.{array, items_of, pairs_of}
+use Rattle.std.proofs.Common.{◌≡◌, ◌∙◌, OnOk, List, map, sym, ap, subst}
+use Rattle.std.proofs.lemmas.List.{take_all}
+use Rattle.passkey_cbor.proofs.building.Views.{item_of-Map}
 use Rattle.passkey_cbor.specs.Item as item
+use Rattle.passkey_cbor.specs.Item.{Item, pairs_of}
 use Rattle.passkey_cbor.specs.View.{item_of, pair_of}
 use Rattle.passkey_cbor.specs.declared.value.Value.{Value}
-use Rattle.passkey_explain.proofs.Describing.{described_of-List, described_of-Map}
-use Rattle.passkey_explain.specs.Described.{Described, Part, element, labelled, list, map_of, parts, parts_from}
-use Rattle.passkey_explain.proofs.DescribingData.{elements_described, pairs_described}
-use Rattle.passkey_explain.specs.DescribedData.{described_item}
+use Rattle.passkey_explain.proofs.DescribingData.{array_described, map_described}
+use Rattle.passkey_explain.specs.Described.{described_of}
+use Rattle.passkey_explain.specs.DescribedData.{described_item, wanted_by}
+use Rattle.passkey_explain.specs.Described as spec
+use Rattle.passkey_explain.specs.Described.{labelled}
+use Rattle.passkey_kinds.specs.declared.wanted.Wanted.TheVariants as wanted
 use Rattle.passkey_explain.proofs.data_items.item.+described.Goals as goal
 
-pub describe_as-returns-in_ok-describe_elements-in-Array : goal.describe_as-returns-in_ok-describe_elements-in-Array
-describe_as-returns-in_ok-describe_elements-in-Array t c =
-    let values = c.deref.result.now in
-    let is = ap item_of c.in-Array.is ∙ item_of-Array c.in-Array.elements
-    ∙ ap (λ (vs : List Value). array (items_of (map item_of vs))) (sym c.deref.ensures.value) in
-    described_of-List c.in_ok-describe_elements-in-Array.field-0
-    ∙ ap (λ (ds : List Described). parts list (parts_from (map (λ d. labelled element d) ds)))
-    c.in_ok-describe_elements-in-Array.ensures
-    ∙ ap (parts list) (sym (elements_described (map item_of values)))
-    ∙ sym (ap (described_item c.args.wanted) is)
+pub describe_array-returns : goal.describe_array-returns
+describe_array-returns t c =
+    let elements = c.args.elements.now in
+    ap described_of c.put.ensures
+    ∙ array_described c.loop-element.all elements
+    (c.loop-element.invariant
+    ∙ ap (λ (xs : List Value). map (described_item wanted.Any) (map item_of xs))
+    (take_all c.loop-element.element-index elements c.loop-element-test.false))
 
-pub describe_as-returns-in_ok-describe_pairs-in-Map : goal.describe_as-returns-in_ok-describe_pairs-in-Map
-describe_as-returns-in_ok-describe_pairs-in-Map t c =
-    let pairs = c.deref-in-Map.result.now in
+pub describe_map-returns : goal.describe_map-returns
+describe_map-returns t c =
+    let pairs = c.args.pairs.now in
+    ap described_of c.put.ensures
+    ∙ map_described c.loop-key.all pairs
+    (c.loop-key.invariant
+    ∙ ap (λ (ps : List (Value × Value)). map (λ m. labelled (spec.key m.0) (described_item (wanted_by m.0) m.1)) (map pair_of ps))
+    (take_all c.loop-key.key-index pairs c.loop-key-test.false))
+
+pub describe_as-returns-in-Map : goal.describe_as-returns-in-Map
+describe_as-returns-in-Map t c =
     let is = ap item_of c.in-Map.is ∙ item_of-Map c.in-Map.pairs
     ∙ ap (λ (ps : List (Value × Value)). item.map (pairs_of (map pair_of ps))) (sym c.deref-in-Map.ensures.value) in
-    described_of-Map c.in_ok-describe_pairs-in-Map.field-0
-    ∙ ap (λ (ps : List Part). parts map_of (parts_from ps)) c.in_ok-describe_pairs-in-Map.ensures
-    ∙ ap (parts map_of) (sym (pairs_described (map pair_of pairs)))
-    ∙ sym (ap (described_item c.args.wanted) is)
+    subst (λ (i : Item). OnOk c.describe_map.result (described_of c.describe_map.new.out ≡ described_item c.args.wanted i))
+    (sym is) c.describe_map.ensures
