@@ -44,6 +44,8 @@ fn quoted_json(alloc: Global, value: &Value) -> Result<String, OutOfMemory>
     quote(alloc, text.as_str())
 }
 
+// What nests is appended by a function with a small frame: what it appends beside that isn't inlined.
+#[inline(never)]
 fn leaf_json(alloc: Global, wanted: Wanted, value: &Value) -> Result<String, OutOfMemory>
     ensures { IfOk result (λ s. string_bytes s ≡ leaf_json wanted (item_of value.now)) }
 {
@@ -74,6 +76,7 @@ fn name_json(alloc: Global, name: &str) -> Result<String, OutOfMemory>
 }
 
 /// Returns a key of a map as a JSON string, and a colon.
+#[inline(never)]
 fn key_json(alloc: Global, key: &Value) -> Result<String, OutOfMemory>
     ensures { IfOk result (λ s. string_bytes s ≡ key_json (item_of key.now)) }
 {
@@ -86,6 +89,7 @@ fn key_json(alloc: Global, key: &Value) -> Result<String, OutOfMemory>
     }
 }
 
+#[inline(never)]
 fn label_json(alloc: Global, name: &FieldName) -> Result<String, OutOfMemory>
     ensures { IfOk result (λ s. string_bytes s ≡ label_json (label_of name.now)) }
 {

@@ -86,6 +86,7 @@ fn is_plain(text: &str) -> bool {
 /// Returns the text of a data item: a byte string with its length and in hexadecimal, an AAGUID as a
 /// UUID, an algorithm with its name, a text where a name of the standard is wanted as it is if it is
 /// plain, and others in diagnostic notation.
+#[inline(never)]
 pub(crate) fn leaf_text(
     alloc: Global,
     wanted: Wanted,

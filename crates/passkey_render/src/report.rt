@@ -1,25 +1,47 @@
 //! A report: one member a line.
 
 use crate::leaf::leaf_text;
+use passkey_cbor::Value;
 use passkey_cbor_text::diagnose::diagnose;
 use passkey_explain::{Description, DroppedItem, FieldName};
+use passkey_kinds::Wanted;
 use passkey_memory::OutOfMemory;
 use std::alloc::Global;
 
 /// Returns what begins a line inside another: two more spaces.
+#[inline(never)]
 fn deeper(alloc: Global, margin: &str) -> Result<String, OutOfMemory> {
     let mut inner = String::from_str(alloc, margin)?;
     inner.push_str("  ")?;
     Ok(inner)
 }
 
+// What nests is appended by functions with small frames: what they append beside it isn't inlined.
+
 /// Appends a line's beginning: the margin, and a name.
+#[inline(never)]
 fn push_name(out: &mut String, margin: &str, name: &str) -> Result<(), OutOfMemory> {
     out.push_str(margin)?;
     out.push_str(name)?;
     Ok(out.push(':')?)
 }
 
+#[inline(never)]
+fn push_index(
+    out: &mut String,
+    alloc: Global,
+    index: usize,
+    margin: &str,
+) -> Result<(), OutOfMemory> {
+    push_name(out, margin, format!(in alloc; "[{index}]")?.as_str())
+}
+
+#[inline(never)]
+fn push_key(out: &mut String, alloc: Global, key: &Value, margin: &str) -> Result<(), OutOfMemory> {
+    push_name(out, margin, diagnose(alloc, key)?.as_str())
+}
+
+#[inline(never)]
 fn push_field_name(
     out: &mut String,
     alloc: Global,
@@ -28,7 +50,7 @@ fn push_field_name(
 ) -> Result<(), OutOfMemory> {
     match name {
         FieldName::Member(_, name) => push_name(out, margin, name),
-        FieldName::Unknown(key) => push_name(out, margin, diagnose(alloc, key)?.as_str()),
+        FieldName::Unknown(key) => push_key(out, alloc, key, margin),
     }
 }
 
@@ -40,8 +62,7 @@ fn push_elements(
     margin: &str,
 ) -> Result<(), OutOfMemory> {
     for (index, item) in items.iter().enumerate() {
-        let name = format!(in alloc; "[{index}]")?;
-        push_name(out, margin, name.as_str())?;
+        push_index(out, alloc, index, margin)?;
         push_value(out, alloc, item, margin)?;
     }
     Ok(())
@@ -55,6 +76,7 @@ fn is_line(items: &[Description]) -> bool {
 }
 
 /// Appends elements that aren't divided, in a line.
+#[inline(never)]
 fn push_line(out: &mut String, alloc: Global, items: &[Description]) -> Result<(), OutOfMemory> {
     for (index, item) in items.iter().enumerate() {
         out.push_str(if index == 0 { " " } else { ", " })?;
@@ -62,6 +84,19 @@ fn push_line(out: &mut String, alloc: Global, items: &[Description]) -> Result<(
             out.push_str(leaf_text(alloc, *wanted, value)?.as_str())?;
         }
     }
+    Ok(out.push('\n')?)
+}
+
+/// Appends an item that isn't divided, in a line.
+#[inline(never)]
+fn push_leaf(
+    out: &mut String,
+    alloc: Global,
+    wanted: Wanted,
+    value: &Value,
+) -> Result<(), OutOfMemory> {
+    out.push(' ')?;
+    out.push_str(leaf_text(alloc, wanted, value)?.as_str())?;
     Ok(out.push('\n')?)
 }
 
@@ -88,12 +123,7 @@ fn push_value(
     }
     let inner = deeper(alloc, margin)?;
     match description {
-        Description::Leaf(wanted, value) => {
-            let text = leaf_text(alloc, *wanted, value)?;
-            out.push(' ')?;
-            out.push_str(text.as_str())?;
-            Ok(out.push('\n')?)
-        }
+        Description::Leaf(wanted, value) => push_leaf(out, alloc, *wanted, value),
         Description::List(items) if is_line(items) => push_line(out, alloc, items),
         Description::List(items) => {
             out.push('\n')?;
@@ -102,7 +132,7 @@ fn push_value(
         Description::Map(pairs) => {
             out.push('\n')?;
             for (key, description) in pairs {
-                push_name(out, inner.as_str(), diagnose(alloc, key)?.as_str())?;
+                push_key(out, alloc, key, inner.as_str())?;
                 push_value(out, alloc, description, inner.as_str())?;
             }
             Ok(())
