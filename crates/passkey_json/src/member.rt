@@ -1,8 +1,8 @@
 //! Members of objects, and the ways to decode them.
-ghost use Rattle.std.specs.Prelude.{◌≡◌, Err, IsTrue, Some, option_map};
+ghost use Rattle.std.specs.Prelude.{◌≡◌, Err, IfOk, IfSome, IsTrue, Some, option_map};
 ghost use Rattle.passkey_json.specs.Along.{accepted_shape, tolerant_shape};
 ghost use Rattle.passkey_json.specs.Fault.{Gives};
-ghost use Rattle.passkey_json.specs.Held.{HasAnswered, IsPlaced, IsUnlessRefused, found};
+ghost use Rattle.passkey_json.specs.Held.{HasAnswered, IsPlaced, IsUnlessRefused, asked_of, found};
 ghost use Rattle.passkey_json.specs.Kind.{accepted, is_array};
 ghost use Rattle.passkey_json.specs.Members.{MemberTakes, under, fault_of, decoded_or_fault, required, or_default, if_present};
 ghost use Rattle.passkey_json.specs.Members.{tolerated, required_tolerated, accepted_list};
@@ -75,6 +75,14 @@ pub(crate) enum Question {
     Dropped,
 }
 
+/// What is asked of a member's value, and the answers.
+#[derive(Drop)]
+pub(crate) struct Asked {
+    question: Question,
+    blame: Result<JsonBlame, OutOfMemory>,
+    dropped: Result<Vec<DroppedValue>, OutOfMemory>,
+}
+
 /// A member of an object, which may be absent. Each way to decode it returns `OutOfMemory` if an
 /// allocation fails, which can only happen for a value that takes memory to decode. If a value is
 /// rejected for which there is no default, the fault is `Float` if the value contains a float, and
@@ -84,10 +92,8 @@ pub struct Member<'a> {
     alloc: Global,
     name: &'static str,
     value: Option<&'a Value>,
-    // what is asked of the value, and the answers
-    question: Option<Question>,
-    blame: Result<JsonBlame, OutOfMemory>,
-    dropped: Result<Vec<DroppedValue>, OutOfMemory>,
+    // in a box, since nothing is asked where a record is decoded
+    asked: Option<Box<Asked>>,
 }
 
 impl<'a> Member<'a> {
@@ -98,39 +104,51 @@ impl<'a> Member<'a> {
             alloc,
             name,
             value,
-            question: None,
-            blame: Err(OutOfMemory),
-            dropped: Err(OutOfMemory),
+            asked: None,
         }
     }
 
-    /// A member with this value and any name, of which this is asked.
-    pub(crate) fn asked(alloc: Global, question: Question, value: &'a Value) -> Member<'a>
-        ensures value { (found result).value ≡ Some (view value.now) }
-        ensures asked { result.question ≡ Some question }
+    /// A member with this value and any name, of which this is asked. Returns `OutOfMemory` if the
+    /// allocation fails.
+    pub(crate) fn asked(
+        alloc: Global,
+        question: Question,
+        value: &'a Value,
+    ) -> Result<Member<'a>, OutOfMemory>
+        ensures value { IfOk result (λ m. (found m).value ≡ Some (view value.now)) }
+        ensures asked { IfOk result (λ m. option_map (λ a. a.question) (asked_of m) ≡ Some question) }
     {
-        Member {
+        let asked = Asked {
+            question,
+            blame: Err(OutOfMemory),
+            dropped: Err(OutOfMemory),
+        };
+        Ok(Member {
             alloc,
             name: "",
             value: Some(value),
-            question: Some(question),
-            blame: Err(OutOfMemory),
-            dropped: Err(OutOfMemory),
-        }
+            asked: Some(Box::new(alloc, asked)?),
+        })
     }
 
     /// Returns what is to blame, if that was asked and the member was decoded.
     pub(crate) fn into_blame(self) -> Result<JsonBlame, OutOfMemory>
-        ensures { result ≡ self.entry.blame }
+        ensures { IfSome (asked_of self.entry) (λ a. result ≡ a.blame) }
     {
-        self.blame
+        match self.asked {
+            Some(asked) => Box::into_inner(asked).blame,
+            None => Err(OutOfMemory),
+        }
     }
 
     /// Returns what is left out, if that was asked and the member was decoded.
     pub(crate) fn into_dropped(self) -> Result<Vec<DroppedValue>, OutOfMemory>
-        ensures { result ≡ self.entry.dropped }
+        ensures { IfSome (asked_of self.entry) (λ a. result ≡ a.dropped) }
     {
-        self.dropped
+        match self.asked {
+            Some(asked) => Box::into_inner(asked).dropped,
+            None => Err(OutOfMemory),
+        }
     }
 
     /// Answers what is asked, by the type that the member is decoded as.
@@ -138,12 +156,12 @@ impl<'a> Member<'a> {
         ensures same { found self.new ≡ found self.old }
         ensures answers { HasAnswered T.shape self.old self.new }
     {
-        let (Some(question), Some(value)) = (self.question, self.value) else {
+        let (Some(asked), Some(value)) = (&mut self.asked, self.value) else {
             return;
         };
-        match question {
-            Question::Blame => self.blame = T::blame(self.alloc, value),
-            Question::Dropped => self.dropped = T::dropped(self.alloc, value),
+        match asked.question {
+            Question::Blame => asked.blame = T::blame(self.alloc, value),
+            Question::Dropped => asked.dropped = T::dropped(self.alloc, value),
         }
     }
 

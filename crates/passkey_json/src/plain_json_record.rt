@@ -188,7 +188,7 @@ fn blame_member<R: PlainJsonRecord>(
 ) -> Result<JsonBlame, OutOfMemory>
     ensures { IfSome (shape_row R.table number) (λ s. IfOk result (Blames s (view value.now))) }
 {
-    let mut member = Member::asked(alloc, Question::Blame, value);
+    let mut member = Member::asked(alloc, Question::Blame, value)?;
     let put = R::blank(alloc).put(number, &mut member);
     drop(put);
     member.into_blame()
@@ -202,7 +202,7 @@ fn dropped_member<R: PlainJsonRecord>(
 ) -> Result<Vec<DroppedValue>, OutOfMemory>
     ensures { IfSome (shape_row R.table number) (λ s. IfOk result (λ v. Drops s (view value.now) v.items)) }
 {
-    let mut member = Member::asked(alloc, Question::Dropped, value);
+    let mut member = Member::asked(alloc, Question::Dropped, value)?;
     let put = R::blank(alloc).put(number, &mut member);
     drop(put);
     member.into_dropped()
