@@ -193,8 +193,20 @@ too_long k s rest front back b long same whole size =
 begun_by : (n k : ℕ) (s rest front back : List ℕ) (b : ℕ) → Heads 3 n front → back ≡ s
     → take (suc k) (b ∷ rest) ≡ front ++ back → n ≡ length s → suc k ≡ 1 + length s → begins_text s (b ∷ rest) ≡ true
 begun_by n k s rest front back b (within less is) same whole len size =
-    grind (arith, take_same k rest s, len, size, less, is, same, whole, nat_tests, cases_lt, eqb-true,
-    (bytes_eq-Decides s s).1 refl)
+    grind (
+      arith,
+      take_same k rest s,
+      len,
+      size,
+      less,
+      is,
+      same,
+      whole,
+      nat_tests,
+      cases_lt,
+      eqb-true,
+      (bytes_eq-Decides s s).1 refl,
+    )
 begun_by n k s rest front back b (following one less is) same whole len size =
     absurd (too_long k s rest front back b (omega (arith, ap length is)) same whole size)
 begun_by n k s rest front back b (following two less is) same whole len size =
