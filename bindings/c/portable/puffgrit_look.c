@@ -165,9 +165,9 @@ static void client_data_after_string_25(uint64_t, uint64_t, uint64_t, uint64_t, 
 static void client_data_after_26(uint64_t, uint64_t, uint64_t, uint64_t, uint64_t);
 static uint32_t scan_any_in_ends_27(uint64_t, uint64_t, uint64_t);
 static uint32_t scan_any_in_quarters_28(uint64_t, uint64_t, uint64_t);
-static uint32_t writer_put_head_29(uint64_t, uint64_t, uint64_t, uint32_t, uint64_t, uint64_t, uint64_t);
-static uint32_t writer_put_item_30(uint64_t, uint64_t, uint64_t, uint32_t, uint64_t, uint64_t, uint64_t, uint64_t);
-static void canonical_after_item_31(uint64_t, uint64_t, uint64_t, uint64_t);
+static void canonical_after_item_29(uint64_t, uint64_t, uint64_t, uint64_t);
+static uint32_t writer_put_head_30(uint64_t, uint64_t, uint64_t, uint32_t, uint64_t, uint64_t, uint64_t);
+static uint32_t writer_put_item_31(uint64_t, uint64_t, uint64_t, uint32_t, uint64_t, uint64_t, uint64_t, uint64_t);
 static uint32_t item_fill_32(uint64_t, uint64_t);
 static uint32_t Cursor_more_33(uint64_t, uint64_t);
 static void Cursor_other_text_34(uint64_t, uint64_t);
@@ -179,6 +179,7 @@ static uint32_t code_puffgrit_auth_parts(uint64_t, uint64_t, uint64_t);
 static uint32_t code_puffgrit_is_canonical(uint64_t, uint64_t);
 static uint32_t code_puffgrit_is_client_data(uint64_t, uint64_t, uint64_t, uint64_t, uint64_t, uint64_t, uint64_t, uint64_t, uint64_t, uint64_t, uint32_t);
 static uint64_t code_puffgrit_item_len(uint64_t, uint64_t);
+static uint32_t code_puffgrit_not_canonical(uint64_t, uint64_t, uint64_t, uint64_t);
 static uint32_t code_puffgrit_write_end(uint64_t, uint64_t, uint64_t);
 static uint32_t code_puffgrit_write_bool(uint64_t, uint64_t, uint64_t, uint32_t);
 static uint32_t code_puffgrit_write_item(uint64_t, uint64_t, uint64_t, uint64_t, uint64_t);
@@ -188,7 +189,6 @@ static uint32_t code_puffgrit_write_bytes(uint64_t, uint64_t, uint64_t, uint64_t
 static uint32_t code_puffgrit_write_int(uint64_t, uint64_t, uint64_t, uint64_t);
 static uint32_t code_puffgrit_write_map(uint64_t, uint64_t, uint64_t, uint64_t);
 static uint32_t code_puffgrit_write_text(uint64_t, uint64_t, uint64_t, uint64_t, uint64_t);
-static uint32_t code_puffgrit_not_canonical(uint64_t, uint64_t, uint64_t, uint64_t);
 static uint32_t code_puffgrit_item_at(uint64_t, uint64_t, uint64_t, uint64_t);
 static uint32_t code_puffgrit_member(uint64_t, uint64_t, uint64_t, uint64_t, uint64_t);
 static uint32_t code_puffgrit_named(uint64_t, uint64_t, uint64_t, uint64_t, uint64_t, uint64_t);
@@ -2255,124 +2255,7 @@ static uint32_t scan_any_in_quarters_28(uint64_t a0, uint64_t a1, uint64_t a2) {
     return (((v7 | v14) | v15) | v13) & 1u;
 }
 
-static uint32_t writer_put_head_29(uint64_t a0, uint64_t a1, uint64_t a2, uint32_t a3, uint64_t a4, uint64_t a5, uint64_t a6) {
-    FRAME(frame, 16);
-    uint32_t v8 = 0;
-    uint64_t v7 = 0;
-    v7 = FRAME_AT(frame);
-    a3 = a3 << 5;
-    if (a4 > 23ull) goto L1;
-    const uint32_t t1 = writer_put_item_30(a0, a1, a2, a3 | (uint32_t)a4, DATA + 74ull, 0ull, a5, a6);
-    a3 = t1;
-    goto L2;
-  L1:;
-    if (a4 > 255ull) goto L3;
-    st8(v7 + 15u, a4);
-    const uint32_t t2 = writer_put_item_30(a0, a1, a2, a3 | 24u, v7 + 15ull, 1ull, a5, a6);
-    a3 = t2;
-    goto L2;
-  L3:;
-    if (a4 > 65535ull) goto L4;
-    v8 = (uint32_t)a4;
-    st16(v7 + 12u, (v8 << 8) | ((v8 & 65280u) >> 8));
-    const uint32_t t3 = writer_put_item_30(a0, a1, a2, a3 | 25u, v7 + 12ull, 2ull, a5, a6);
-    a3 = t3;
-    goto L2;
-  L4:;
-    if (a4 > 0xffffffffull) goto L5;
-    v8 = (uint32_t)a4;
-    st32(v7 + 8u, (rotr32(v8 & 0xff00ffu, 8u) | ((v8 << 8) & 0xff0000u)) | (uint32_t)(a4 >> 24));
-    const uint32_t t4 = writer_put_item_30(a0, a1, a2, a3 | 26u, v7 + 8ull, 4ull, a5, a6);
-    a3 = t4;
-    goto L2;
-  L5:;
-    const uint64_t t5 = ((a4 << 56) | ((a4 & 65280ull) << 40)) | (((a4 & 0xff0000ull) << 24) | ((a4 & 0xff000000ull) << 8));
-    const uint64_t t6 = (((a4 >> 8) & 0xff000000ull) | ((a4 >> 24) & 0xff0000ull)) | (((a4 >> 40) & 65280ull) | (a4 >> 56));
-    st64(v7, t5 | t6);
-    const uint32_t t7 = writer_put_item_30(a0, a1, a2, a3 | 27u, v7, 8ull, a5, a6);
-    a3 = t7;
-  L2:;
-    return a3;
-}
-
-static uint32_t writer_put_item_30(uint64_t a0, uint64_t a1, uint64_t a2, uint32_t a3, uint64_t a4, uint64_t a5, uint64_t a6, uint64_t a7) {
-    uint32_t v8 = 0;
-    uint64_t v9 = 0, v10 = 0, v11 = 0, v12 = 0, v13 = 0, v14 = 0;
-    v8 = 0u;
-    v9 = 0xffffffffffffffffull;
-    v10 = ld64(a2);
-    if (a1 <= v10) goto L1;
-    v9 = 0xffffffffffffffffull;
-    a1 = a1 + (v10 ^ 0xffffffffffffffffull);
-    if (a1 < a5) goto L1;
-    if ((a1 - a5) < a7) goto L1;
-    st8(a0 + v10, a3);
-    v9 = v10 + 1ull;
-    st64(a2, v9);
-    a1 = a0 + v9;
-    if ((a1 - a4) < a5) goto L2;
-    if (a5 == 0) goto L3;
-    copy(a1, a4, a5);
-    goto L3;
-  L2:;
-    st8(a1, ld8(a4));
-    if (a5 == 1ull) goto L3;
-    st8(a1 + 1u, ld8(a4 + 1u));
-    if (a5 == 2ull) goto L3;
-    st8(a1 + 2u, ld8(a4 + 2u));
-    if (a5 == 3ull) goto L3;
-    st8(a1 + 3u, ld8(a4 + 3u));
-    if (a5 == 4ull) goto L3;
-    st8(a1 + 4u, ld8(a4 + 4u));
-    if (a5 == 5ull) goto L3;
-    st8(a1 + 5u, ld8(a4 + 5u));
-    if (a5 == 6ull) goto L3;
-    st8(a1 + 6u, ld8(a4 + 6u));
-    if (a5 == 7ull) goto L3;
-    st8(a1 + 7u, ld8(a4 + 7u));
-  L3:;
-    v11 = v9 + a5;
-    st64(a2, v11);
-    v9 = a0 + v11;
-    if ((v9 - a6) >= a7) goto L4;
-    v12 = a7 & 3ull;
-    a1 = 0ull;
-    if (a7 < 4ull) goto L5;
-    v13 = a7 & 0xfffffffffffffffcull;
-    v14 = a0 + (v10 + a5);
-    a1 = 0ull;
-  L6:;
-    v9 = v14 + a1;
-    a4 = a6 + a1;
-    st8(v9 + 1ull, ld8(a4));
-    st8(v9 + 2ull, ld8(a4 + 1ull));
-    st8(v9 + 3ull, ld8(a4 + 2ull));
-    st8(v9 + 4ull, ld8(a4 + 3ull));
-    a1 = a1 + 4ull;
-    if (v13 != a1) goto L6;
-    if (v12 == 0) goto L7;
-  L5:;
-    v9 = a6 + a1;
-    a1 = (((a1 + v10) + a5) + a0) + 1ull;
-  L8:;
-    st8(a1, ld8(v9));
-    a1 = a1 + 1ull;
-    v9 = v9 + 1ull;
-    v12 = v12 - 1ull;
-    if (v12 != 0ull) goto L8;
-    goto L7;
-  L4:;
-    if (a7 == 0) goto L7;
-    copy(v9, a6, a7);
-  L7:;
-    v9 = v11 + a7;
-    v8 = 1u;
-  L1:;
-    st64(a2, v9);
-    return v8;
-}
-
-static void canonical_after_item_31(uint64_t a0, uint64_t a1, uint64_t a2, uint64_t a3) {
+static void canonical_after_item_29(uint64_t a0, uint64_t a1, uint64_t a2, uint64_t a3) {
     FRAME(frame, 96);
     uint32_t v5 = 0, v8 = 0, v11 = 0, v12 = 0;
     uint64_t v4 = 0, v6 = 0, v7 = 0, v9 = 0, v10 = 0, v13 = 0, v14 = 0;
@@ -2568,7 +2451,7 @@ static void canonical_after_item_31(uint64_t a0, uint64_t a1, uint64_t a2, uint6
   L41:;
     a2 = a3 - (uint64_t)(uint32_t)(a3 != 0ull);
   L42:;
-    canonical_after_item_31(v4, v6, v10, a2);
+    canonical_after_item_29(v4, v6, v10, a2);
     if (ld8(v4)) goto L43;
     v10 = ld64(v4 + 16u);
     v6 = ld64(v4 + 8u);
@@ -2608,10 +2491,10 @@ static void canonical_after_item_31(uint64_t a0, uint64_t a1, uint64_t a2, uint6
     goto L45;
   L46:;
     a2 = a3 - (uint64_t)(uint32_t)(a3 != 0ull);
-    canonical_after_item_31(v4, v6, v10, a2);
+    canonical_after_item_29(v4, v6, v10, a2);
     if (ld8(v4)) goto L47;
     v14 = ld64(v4 + 16u);
-    canonical_after_item_31(v4 + 64ull, ld64(v4 + 8u), v14, a2);
+    canonical_after_item_29(v4 + 64ull, ld64(v4 + 8u), v14, a2);
     if (ld8(v4 + 64u)) goto L48;
     a3 = ld64(v4 + 80u);
     v13 = ld64(v4 + 72u);
@@ -2623,7 +2506,7 @@ static void canonical_after_item_31(uint64_t a0, uint64_t a1, uint64_t a2, uint6
     v7 = v10 - v14;
     v10 = v13;
   L51:;
-    canonical_after_item_31(v4, v10, a3, a2);
+    canonical_after_item_29(v4, v10, a3, a2);
     if (ld8(v4)) goto L47;
     v14 = ld64(v4 + 16u);
     v13 = a3 - v14;
@@ -2643,7 +2526,7 @@ static void canonical_after_item_31(uint64_t a0, uint64_t a1, uint64_t a2, uint6
     v9 = 1ull;
     goto L45;
   L52:;
-    canonical_after_item_31(v4 + 64ull, ld64(v4 + 8u), v14, a2);
+    canonical_after_item_29(v4 + 64ull, ld64(v4 + 8u), v14, a2);
     if (ld8(v4 + 64u)) goto L48;
     a3 = ld64(v4 + 80u);
     v7 = v13;
@@ -2730,6 +2613,123 @@ static void canonical_after_item_31(uint64_t a0, uint64_t a1, uint64_t a2, uint6
     st64(a0 + 16ull, v10);
     st8(a0 + 9ull, v5);
     st8(a0 + 8ull, v11);
+}
+
+static uint32_t writer_put_head_30(uint64_t a0, uint64_t a1, uint64_t a2, uint32_t a3, uint64_t a4, uint64_t a5, uint64_t a6) {
+    FRAME(frame, 16);
+    uint32_t v8 = 0;
+    uint64_t v7 = 0;
+    v7 = FRAME_AT(frame);
+    a3 = a3 << 5;
+    if (a4 > 23ull) goto L1;
+    const uint32_t t1 = writer_put_item_31(a0, a1, a2, a3 | (uint32_t)a4, DATA + 74ull, 0ull, a5, a6);
+    a3 = t1;
+    goto L2;
+  L1:;
+    if (a4 > 255ull) goto L3;
+    st8(v7 + 15u, a4);
+    const uint32_t t2 = writer_put_item_31(a0, a1, a2, a3 | 24u, v7 + 15ull, 1ull, a5, a6);
+    a3 = t2;
+    goto L2;
+  L3:;
+    if (a4 > 65535ull) goto L4;
+    v8 = (uint32_t)a4;
+    st16(v7 + 12u, (v8 << 8) | ((v8 & 65280u) >> 8));
+    const uint32_t t3 = writer_put_item_31(a0, a1, a2, a3 | 25u, v7 + 12ull, 2ull, a5, a6);
+    a3 = t3;
+    goto L2;
+  L4:;
+    if (a4 > 0xffffffffull) goto L5;
+    v8 = (uint32_t)a4;
+    st32(v7 + 8u, (rotr32(v8 & 0xff00ffu, 8u) | ((v8 << 8) & 0xff0000u)) | (uint32_t)(a4 >> 24));
+    const uint32_t t4 = writer_put_item_31(a0, a1, a2, a3 | 26u, v7 + 8ull, 4ull, a5, a6);
+    a3 = t4;
+    goto L2;
+  L5:;
+    const uint64_t t5 = ((a4 << 56) | ((a4 & 65280ull) << 40)) | (((a4 & 0xff0000ull) << 24) | ((a4 & 0xff000000ull) << 8));
+    const uint64_t t6 = (((a4 >> 8) & 0xff000000ull) | ((a4 >> 24) & 0xff0000ull)) | (((a4 >> 40) & 65280ull) | (a4 >> 56));
+    st64(v7, t5 | t6);
+    const uint32_t t7 = writer_put_item_31(a0, a1, a2, a3 | 27u, v7, 8ull, a5, a6);
+    a3 = t7;
+  L2:;
+    return a3;
+}
+
+static uint32_t writer_put_item_31(uint64_t a0, uint64_t a1, uint64_t a2, uint32_t a3, uint64_t a4, uint64_t a5, uint64_t a6, uint64_t a7) {
+    uint32_t v8 = 0;
+    uint64_t v9 = 0, v10 = 0, v11 = 0, v12 = 0, v13 = 0, v14 = 0;
+    v8 = 0u;
+    v9 = 0xffffffffffffffffull;
+    v10 = ld64(a2);
+    if (a1 <= v10) goto L1;
+    v9 = 0xffffffffffffffffull;
+    a1 = a1 + (v10 ^ 0xffffffffffffffffull);
+    if (a1 < a5) goto L1;
+    if ((a1 - a5) < a7) goto L1;
+    st8(a0 + v10, a3);
+    v9 = v10 + 1ull;
+    st64(a2, v9);
+    a1 = a0 + v9;
+    if ((a1 - a4) < a5) goto L2;
+    if (a5 == 0) goto L3;
+    copy(a1, a4, a5);
+    goto L3;
+  L2:;
+    st8(a1, ld8(a4));
+    if (a5 == 1ull) goto L3;
+    st8(a1 + 1u, ld8(a4 + 1u));
+    if (a5 == 2ull) goto L3;
+    st8(a1 + 2u, ld8(a4 + 2u));
+    if (a5 == 3ull) goto L3;
+    st8(a1 + 3u, ld8(a4 + 3u));
+    if (a5 == 4ull) goto L3;
+    st8(a1 + 4u, ld8(a4 + 4u));
+    if (a5 == 5ull) goto L3;
+    st8(a1 + 5u, ld8(a4 + 5u));
+    if (a5 == 6ull) goto L3;
+    st8(a1 + 6u, ld8(a4 + 6u));
+    if (a5 == 7ull) goto L3;
+    st8(a1 + 7u, ld8(a4 + 7u));
+  L3:;
+    v11 = v9 + a5;
+    st64(a2, v11);
+    v9 = a0 + v11;
+    if ((v9 - a6) >= a7) goto L4;
+    v12 = a7 & 3ull;
+    a1 = 0ull;
+    if (a7 < 4ull) goto L5;
+    v13 = a7 & 0xfffffffffffffffcull;
+    v14 = a0 + (v10 + a5);
+    a1 = 0ull;
+  L6:;
+    v9 = v14 + a1;
+    a4 = a6 + a1;
+    st8(v9 + 1ull, ld8(a4));
+    st8(v9 + 2ull, ld8(a4 + 1ull));
+    st8(v9 + 3ull, ld8(a4 + 2ull));
+    st8(v9 + 4ull, ld8(a4 + 3ull));
+    a1 = a1 + 4ull;
+    if (v13 != a1) goto L6;
+    if (v12 == 0) goto L7;
+  L5:;
+    v9 = a6 + a1;
+    a1 = (((a1 + v10) + a5) + a0) + 1ull;
+  L8:;
+    st8(a1, ld8(v9));
+    a1 = a1 + 1ull;
+    v9 = v9 + 1ull;
+    v12 = v12 - 1ull;
+    if (v12 != 0ull) goto L8;
+    goto L7;
+  L4:;
+    if (a7 == 0) goto L7;
+    copy(v9, a6, a7);
+  L7:;
+    v9 = v11 + a7;
+    v8 = 1u;
+  L1:;
+    st64(a2, v9);
+    return v8;
 }
 
 static uint32_t item_fill_32(uint64_t a0, uint64_t a1) {
@@ -3483,6 +3483,31 @@ static uint64_t code_puffgrit_item_len(uint64_t a0, uint64_t a1) {
     return v3 ? a0 : 0ull;
 }
 
+static uint32_t code_puffgrit_not_canonical(uint64_t a0, uint64_t a1, uint64_t a2, uint64_t a3) {
+    FRAME(frame, 32);
+    uint32_t v5 = 0;
+    uint64_t v4 = 0;
+    v4 = FRAME_AT(frame);
+    st64(v4 + 24u, 0ull);
+    st64(v4 + 16u, 0ull);
+    st64(v4 + 8u, 0ull);
+    st64(v4, 0ull);
+    canonical_after_item_29(v4, a0 + ((a0 == 0) ? 4096ull : 0ull), a1, (a2 < 256ull) ? a2 : 256ull);
+    if (ld8(v4)) goto L1;
+    v5 = 9u;
+    a0 = ld64(v4 + 16u);
+    if (a0 != 0) goto L2;
+    v5 = 0u;
+    goto L3;
+  L1:;
+    v5 = (ld8(v4 + 8u) + 1u) & 255u;
+    a0 = ld64(v4 + 24u);
+  L2:;
+    st64(a3, a1 - a0);
+  L3:;
+    return v5;
+}
+
 static uint32_t code_puffgrit_write_end(uint64_t a0, uint64_t a1, uint64_t a2) {
     FRAME(frame, 32);
     uint32_t v4 = 0;
@@ -3581,27 +3606,27 @@ static uint32_t code_puffgrit_write_null(uint64_t a0, uint64_t a1, uint64_t a2) 
 }
 
 static uint32_t code_puffgrit_write_array(uint64_t a0, uint64_t a1, uint64_t a2, uint64_t a3) {
-    const uint32_t t1 = writer_put_head_29(a0 + ((a0 == 0) ? 4096ull : 0ull), a1, a2, 4u, a3, DATA + 74ull, 0ull);
+    const uint32_t t1 = writer_put_head_30(a0 + ((a0 == 0) ? 4096ull : 0ull), a1, a2, 4u, a3, DATA + 74ull, 0ull);
     return t1;
 }
 
 static uint32_t code_puffgrit_write_bytes(uint64_t a0, uint64_t a1, uint64_t a2, uint64_t a3, uint64_t a4) {
-    const uint32_t t1 = writer_put_head_29(a0 + ((a0 == 0) ? 4096ull : 0ull), a1, a2, 2u, a4, a3 + ((a3 == 0) ? 4096ull : 0ull), a4);
+    const uint32_t t1 = writer_put_head_30(a0 + ((a0 == 0) ? 4096ull : 0ull), a1, a2, 2u, a4, a3 + ((a3 == 0) ? 4096ull : 0ull), a4);
     return t1;
 }
 
 static uint32_t code_puffgrit_write_int(uint64_t a0, uint64_t a1, uint64_t a2, uint64_t a3) {
     a0 = a0 + ((a0 == 0) ? 4096ull : 0ull);
     if (less_s64(a3, 0ull)) goto L1;
-    const uint32_t t1 = writer_put_head_29(a0, a1, a2, 0u, a3, DATA + 74ull, 0ull);
+    const uint32_t t1 = writer_put_head_30(a0, a1, a2, 0u, a3, DATA + 74ull, 0ull);
     return t1;
   L1:;
-    const uint32_t t2 = writer_put_head_29(a0, a1, a2, 1u, a3 ^ 0xffffffffffffffffull, DATA + 74ull, 0ull);
+    const uint32_t t2 = writer_put_head_30(a0, a1, a2, 1u, a3 ^ 0xffffffffffffffffull, DATA + 74ull, 0ull);
     return t2;
 }
 
 static uint32_t code_puffgrit_write_map(uint64_t a0, uint64_t a1, uint64_t a2, uint64_t a3) {
-    const uint32_t t1 = writer_put_head_29(a0 + ((a0 == 0) ? 4096ull : 0ull), a1, a2, 5u, a3, DATA + 74ull, 0ull);
+    const uint32_t t1 = writer_put_head_30(a0 + ((a0 == 0) ? 4096ull : 0ull), a1, a2, 5u, a3, DATA + 74ull, 0ull);
     return t1;
 }
 
@@ -3616,7 +3641,7 @@ static uint32_t code_puffgrit_write_text(uint64_t a0, uint64_t a1, uint64_t a2, 
     utf8_from_utf8_13(v5 + 8ull, a3 + ((a3 == 0) ? 4096ull : 0ull), a4);
     if (ld8(v5 + 8u)) goto L1;
     a3 = ld64(v5 + 24u);
-    const uint32_t t1 = writer_put_head_29(a0 + ((a0 == 0) ? 4096ull : 0ull), a1, a2, 3u, a3, ld64(v5 + 16u), a3);
+    const uint32_t t1 = writer_put_head_30(a0 + ((a0 == 0) ? 4096ull : 0ull), a1, a2, 3u, a3, ld64(v5 + 16u), a3);
     v6 = t1;
     goto L2;
   L1:;
@@ -3624,31 +3649,6 @@ static uint32_t code_puffgrit_write_text(uint64_t a0, uint64_t a1, uint64_t a2, 
     v6 = 0u;
   L2:;
     return v6;
-}
-
-static uint32_t code_puffgrit_not_canonical(uint64_t a0, uint64_t a1, uint64_t a2, uint64_t a3) {
-    FRAME(frame, 32);
-    uint32_t v5 = 0;
-    uint64_t v4 = 0;
-    v4 = FRAME_AT(frame);
-    st64(v4 + 24u, 0ull);
-    st64(v4 + 16u, 0ull);
-    st64(v4 + 8u, 0ull);
-    st64(v4, 0ull);
-    canonical_after_item_31(v4, a0 + ((a0 == 0) ? 4096ull : 0ull), a1, (a2 < 256ull) ? a2 : 256ull);
-    if (ld8(v4)) goto L1;
-    v5 = 9u;
-    a0 = ld64(v4 + 16u);
-    if (a0 != 0) goto L2;
-    v5 = 0u;
-    goto L3;
-  L1:;
-    v5 = ld8(v4 + 8u) + 1u;
-    a0 = ld64(v4 + 24u);
-  L2:;
-    st64(a3, a1 - a0);
-  L3:;
-    return v5;
 }
 
 static uint32_t code_puffgrit_item_at(uint64_t a0, uint64_t a1, uint64_t a2, uint64_t a3) {
