@@ -10,7 +10,7 @@
      The other calls call no function of C, and may be made from a signal handler.
    - A call that finds nothing returns false, and leaves its output as it was.
    - A call that looks at a data item looks at all of it: it takes as long as puffgrit_item_len. No proof covers the stack: over arrays,
-     maps and tags of 256 levels puffgrit_rewrite of libpuffgrit took up to 160 KiB, the other calls that allocate 352,
+     maps and tags of 256 levels puffgrit_rewrite of libpuffgrit took up to 140 KiB, the other calls that allocate 168,
      puffgrit_is_canonical, puffgrit_not_canonical, puffgrit_write_item and puffgrit_write_end 68, and the others 10; README.md
      has the figures of puffgrit.c.
    - A data item is in CTAP2's canonical form (CTAP 2.1, section 8) if its heads are as short as they can be, its lengths definite, the
