@@ -80,7 +80,8 @@ WritesAsked IsWanted HasFault demands is_one input old new status =
     (IsDenial HasFault (IsUnasked IsWanted demands is_one input)) old new status
 
 -- what is left of what was made, by what is seen of it: its bytes, and how many of the input's they are made from
-abbrev pub Admits : {A : Type 0} → (A → List ℕ × ℕ) → Option Demands → Bool → List ℕ → Result A RunFault → Result A Denial → Type 0
+abbrev pub Admits : {A : Type 0} → (A → List ℕ × ℕ) → Option Demands → Bool → List ℕ → Result A RunFault → Result A Denial
+    → Type 0
 Admits view demands is_one input (Ok v) (Ok w) = (view w ≡ view v) × MeetsAsked demands is_one input (view v).1
 Admits view demands is_one input (Ok v) (Err (denial.Fault f)) = ⊥
 Admits view demands is_one input (Ok v) (Err (denial.NotCanonical r)) =

@@ -369,11 +369,12 @@ fn judge_asked(
 /// of a COSE key the label or the value that is no key's; of an attestation statement the data item
 /// or map key that its format refuses; of a structure of a TPM the field; or the bytes from where
 /// they aren't well-formed; of a JSON text all of it; and of what isn't as the flags ask (see
-/// puffgrit_rewrite) the data item or the map key that breaks the rule, or the trailing bytes. And a text is written to the beginning of `out`,
-/// or as much of it as there is room for, and its whole length to `len`. It says where these bytes are
-/// and what is wanted there, as "user.id: a byte string is wanted (offset 58, length 10)"; of a JSON
-/// text it names the value, as "publicKey.timeout: an integer from 0 to 4294967295 is wanted". It is
-/// ASCII, but for the names of members in a JSON text that no record knows, which are UTF-8. Otherwise
+/// puffgrit_rewrite) the data item or the map key that breaks the rule, or the trailing bytes. And a
+/// text is written to the beginning of `out`, or as much of it as there is room for, and its whole
+/// length to `len`. It says where these bytes are and what is wanted there, as "user.id: a byte string
+/// is wanted (offset 58, length 10)"; of a JSON text it names the value, as "publicKey.timeout: an
+/// integer from 0 to 4294967295 is wanted". It is ASCII, but for the names of members in a JSON text
+/// that no record knows, which are UTF-8. Otherwise
 /// nothing is written.
 ///
 /// (CTAP 2.1, section 6; RFC 8949, section 3; WebAuthn Level 3, sections 5, 6.1 and 8.)

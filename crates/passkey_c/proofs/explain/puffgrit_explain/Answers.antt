@@ -18,5 +18,5 @@ returns-in-Some c =
     subst (λ (k : Option Kind). ExplainsAs k (demands_in c.args.kind) input old new c.tell.result) c.in-Some.ensures
     (subst (λ (a : Option Demands). Explaining (AcceptsAsked a d input) (TellsAsked a d input) old new c.tell.result)
     c.demands_in-demands.ensures
-    (explains_of (AcceptsAsked c.demands_in-demands.result d input) (TellsAsked c.demands_in-demands.result d input) c.judge_asked-verdict.result
-    c.judge_asked-verdict.ensures c.tell.ensures))
+    (explains_of (AcceptsAsked c.demands_in-demands.result d input) (TellsAsked c.demands_in-demands.result d input)
+    c.judge_asked-verdict.result c.judge_asked-verdict.ensures c.tell.ensures))

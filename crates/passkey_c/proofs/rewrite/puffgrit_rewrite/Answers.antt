@@ -16,5 +16,6 @@ returns-in-Some c =
     let new : Outputs = record { read = c.write.new.read; out = c.write.new.out; len = c.write.new.len } in
     subst (λ (k : Option Kind). Rewrites k (demands_in c.args.kind) input old new c.write.result) c.in-Some.ensures
     (asked_as c.demands_in-demands.ensures c.is_item.ensures
-    (asked_of _ (Encodes d input) (IsRefusal d input) c.demands_in-demands.result c.is_item.result input c.encode-made.result c.admitted.result
-    c.encode-made.ensures.ok c.encode-made.ensures.err c.admitted.ensures c.write.ensures))
+    (asked_of _ (Encodes d input) (IsRefusal d input) c.demands_in-demands.result c.is_item.result input
+    c.encode-made.result c.admitted.result c.encode-made.ensures.ok c.encode-made.ensures.err c.admitted.ensures
+    c.write.ensures))

@@ -17,5 +17,6 @@ returns-in-Some c =
     let new : Outputs = record { read = c.write.new.read; out = c.write.new.out; len = c.write.new.len } in
     subst (λ (k : Option Kind). WritesValues k (demands_in c.args.kind) input old new c.write.result) c.in-Some.ensures
     (asked_as c.demands_in-demands.ensures c.is_item.ensures
-    (asked_of _ (ShowsValues d input) (IsRefusal d input) c.demands_in-demands.result c.is_item.result input c.values_as-made.result c.admitted.result
-    c.values_as-made.ensures.ok c.values_as-made.ensures.err c.admitted.ensures c.write.ensures))
+    (asked_of _ (ShowsValues d input) (IsRefusal d input) c.demands_in-demands.result c.is_item.result input
+    c.values_as-made.result c.admitted.result c.values_as-made.ensures.ok c.values_as-made.ensures.err c.admitted.ensures
+    c.write.ensures))
