@@ -8,12 +8,13 @@ use Rattle.passkey_cbor.specs.Item.{Item, array, elements, members}
 use Rattle.passkey_explain.proofs.BlameLaws.{AreLeft, first_left, others_left, all_left}
 use Rattle.passkey_explain.proofs.Blames.{reached_further, some_same}
 use Rattle.passkey_explain.proofs.Refusals.{refused}
-use Rattle.passkey_explain.specs.Blame.{Step, element, item_along, part_at}
+use Rattle.passkey_explain.specs.Blame.{Step, element, key, at_fault, item_along, part_at}
 use Rattle.passkey_explain.specs.Blaming.{blamed}
-use Rattle.passkey_explain.specs.Dropped.{Leaving, Stepping, dropped, dropped_row, dropped_elements, dropped_list, dropped_value, dropped_pairs, dropped_map, entry_step, step_by, member_step}
-use Rattle.passkey_explain.specs.Drops.{IsLeftOut, Tolerates}
+use Rattle.passkey_explain.specs.Dropped.{Leaving, Stepping, dropped, dropped_row, dropped_elements, dropped_list, dropped_pair, dropped_pairs, dropped_map, entry_step, step_by, member_step}
+use Rattle.passkey_explain.specs.Drops.{IsLeftOut, Wraps}
 use Rattle.passkey_kinds.specs.Record.{Members, Naming, row, unknown, wrong, names}
 use Rattle.passkey_kinds.specs.Shape.{Entry, Shape, leaf, record_of, Rows, no_rows, Tested, reached, part_of, row_in, entries_in}
+use Rattle.passkey_kinds.specs.declared.fault.Fault.TheVariants.{BadKey}
 use Rattle.passkey_cbor.specs.Item as item
 use Rattle.passkey_kinds.specs.Shape as shape
 
@@ -58,40 +59,46 @@ module _ (root : Tested) (whole : Item) where
   list_left of leaves path (array is) at = elements_left of leaves is path at 0 (elements is) (all_left (elements is))
   list_left of leaves path _ at = All-nil (IsLeftOut root whole)
 
-  -- the step leads to the value of the pair
-  abbrev ValueAt : item.Pairs → ℕ → Item → Step × ℕ → Type 0
-  ValueAt ps n i s = (m : Item × Item) → slice_get (members ps) n ≡ Some m → part_at s.0 (item.map ps) ≡ Some m.1
+  -- each step leads to the value of the pair at its index, and a key that no step follows is left out
+  pub record Steps (steps : Stepping) (path : List Step) (ps : item.Pairs) : Type 0 where
+    pub lead : (n : ℕ) (m : Item × Item) → slice_get (members ps) n ≡ Some m
+        → IfSome (steps n m.0) (λ s. part_at s.0 (item.map ps) ≡ Some m.1)
+    pub others : (n : ℕ) (m : Item × Item) → slice_get (members ps) n ≡ Some m → steps n m.0 ≡ None
+        → IsLeftOut root whole (record { path = path ++ key n ∷ []; blame = at_fault BadKey })
 
-  value_left : (of : ℕ → Leaving) → ((n : ℕ) → Leaves (of n)) → (ps : item.Pairs) (path : List Step)
-      → item_along path whole ≡ Some (item.map ps) → (o : Option (Step × ℕ)) (i : Item)
-      → IfSome o (λ s. part_at s.0 (item.map ps) ≡ Some i) → All (IsLeftOut root whole) (dropped_value of path o i)
-  value_left of leaves ps path at (Some s) i there =
+  pair_left : (of : ℕ → Leaving) → ((n : ℕ) → Leaves (of n)) → (ps : item.Pairs) (path : List Step)
+      → item_along path whole ≡ Some (item.map ps) → (n : ℕ) (o : Option (Step × ℕ)) (i : Item)
+      → IfSome o (λ s. part_at s.0 (item.map ps) ≡ Some i)
+      → (o ≡ None → IsLeftOut root whole (record { path = path ++ key n ∷ []; blame = at_fault BadKey }))
+      → All (IsLeftOut root whole) (dropped_pair of path n o i)
+  pair_left of leaves ps path at n (Some s) i there out =
       leaves s.1 (path ++ s.0 ∷ []) i (along_further path s.0 whole (item.map ps) at ∙ there)
-  value_left of leaves ps path at None i there = All-nil (IsLeftOut root whole)
+  pair_left of leaves ps path at n None i there out =
+      All-cons (IsLeftOut root whole) (record { path = path ++ key n ∷ []; blame = at_fault BadKey }) [] (out refl)
+      (All-nil (IsLeftOut root whole))
 
-  -- each step leads to the value of the pair at its index
-  abbrev StepsLead : Stepping → Type 0
-  StepsLead steps = (ps : item.Pairs) (n : ℕ) (m : Item × Item) → slice_get (members ps) n ≡ Some m
-      → IfSome (steps n m.0) (λ s. part_at s.0 (item.map ps) ≡ Some m.1)
+  pairs_left : (steps : Stepping) (of : ℕ → Leaving) → ((n : ℕ) → Leaves (of n)) → (ps : item.Pairs)
+      (path : List Step) → item_along path whole ≡ Some (item.map ps) → Steps steps path ps → (n : ℕ) (ms : Members)
+      → AreLeft (members ps) n ms → All (IsLeftOut root whole) (dropped_pairs steps of path n ms)
+  pairs_left steps of leaves ps path at by n [] left = All-nil (IsLeftOut root whole)
+  pairs_left steps of leaves ps path at by n (m ∷ ms) left =
+      let first = first_left (members ps) n m ms left in
+      All-append (IsLeftOut root whole) (dropped_pair of path n (steps n m.0) m.1) (dropped_pairs steps of path (suc n) ms)
+      (pair_left of leaves ps path at n (steps n m.0) m.1 (by.lead n m first) (by.others n m first))
+      (pairs_left steps of leaves ps path at by (suc n) ms (others_left (members ps) n m ms left))
 
-  pairs_left : (steps : Stepping) → StepsLead steps → (of : ℕ → Leaving) → ((n : ℕ) → Leaves (of n)) → (ps : item.Pairs)
-      (path : List Step) → item_along path whole ≡ Some (item.map ps) → (n : ℕ) (ms : Members) → AreLeft (members ps) n ms
-      → All (IsLeftOut root whole) (dropped_pairs steps of path n ms)
-  pairs_left steps lead of leaves ps path at n [] left = All-nil (IsLeftOut root whole)
-  pairs_left steps lead of leaves ps path at n (m ∷ ms) left =
-      All-append (IsLeftOut root whole) (dropped_value of path (steps n m.0) m.1) (dropped_pairs steps of path (suc n) ms)
-      (value_left of leaves ps path at (steps n m.0) m.1 (lead ps n m (first_left (members ps) n m ms left)))
-      (pairs_left steps lead of leaves ps path at (suc n) ms (others_left (members ps) n m ms left))
-
-  pub map_left : (steps : Stepping) → StepsLead steps → (of : ℕ → Leaving) → ((n : ℕ) → Leaves (of n))
-      → Leaves (dropped_map steps of)
+  pub map_left : (steps : Stepping) → ((path : List Step) (ps : item.Pairs) → item_along path whole ≡ Some (item.map ps)
+      → Steps steps path ps) → (of : ℕ → Leaving) → ((n : ℕ) → Leaves (of n)) → Leaves (dropped_map steps of)
   unfolding dropped_map
-  map_left steps lead of leaves path (item.map ps) at =
-      pairs_left steps lead of leaves ps path at 0 (members ps) (all_left (members ps))
-  map_left steps lead of leaves path _ at = All-nil (IsLeftOut root whole)
+  map_left steps by of leaves path (item.map ps) at =
+      pairs_left steps of leaves ps path at (by path ps at) 0 (members ps) (all_left (members ps))
+  map_left steps by of leaves path _ at = All-nil (IsLeftOut root whole)
 
-  pub entries_lead : StepsLead entry_step
-  entries_lead ps n m at = ap (option_map (λ (p : Item × Item). p.1)) at
+  pub entries_by : (path : List Step) (ps : item.Pairs) → Steps entry_step path ps
+  entries_by path ps = record {
+    lead = λ n m at. ap (option_map (λ (p : Item × Item). p.1)) at;
+    others = λ n m at none. absurd cc;
+  }
 
   naming_leads : (es : List Entry) (ps : item.Pairs) (n : ℕ) (m : Item × Item) → slice_get (members ps) n ≡ Some m
       → (naming : Naming) → IfSome (step_by es n naming) (λ s. part_at s.0 (item.map ps) ≡ Some m.1)
@@ -99,17 +106,37 @@ module _ (root : Tested) (whole : Item) where
   naming_leads es ps n m at unknown = tt
   naming_leads es ps n m at wrong = tt
 
-  pub members_lead : (is_numbered : Bool) (es : List Entry) → StepsLead (member_step is_numbered es)
-  members_lead is_numbered es ps n m at = naming_leads es ps n m at (names is_numbered es m.0)
+  pub members_by : (b : Bool) (rows : Rows) (place : Tested) (way : List ℕ) → reached way root ≡ Some place
+      → Wraps place.shape (record_of b rows) → (path : List Step) (ps : item.Pairs)
+      → item_along path whole ≡ Some (item.map ps) → Steps (member_step b (entries_in rows)) path ps
+  members_by b rows place way reaches has path ps at = record {
+    lead = λ n m there. naming_leads (entries_in rows) ps n m there (names b (entries_in rows) m.0);
+    others = λ n m there none. inr (record {
+      path = path;
+      pairs = ps;
+      leads = at;
+      way = way;
+      place = place;
+      reaches = reaches;
+      is_numbered = b;
+      rows = rows;
+      has = has;
+      index = n;
+      pair = m;
+      there = there;
+      unknown = none;
+      is = refl;
+    });
+  }
 
   -- a place that tolerates any item
   pub tolerant_case : (keeps : Item → Bool) (s : Shape) (place : Tested) (way : List ℕ) → reached way root ≡ Some place
-      → Tolerates place.shape (record { accepts = keeps; shape = s }) → (path : List Step) (i : Item)
+      → Wraps place.shape (shape.tolerant keeps s) → (path : List Step) (i : Item)
       → item_along path whole ≡ Some i → All (IsLeftOut root whole) (dropped s path i) → (c : Bool) → keeps i ≡ c
       → All (IsLeftOut root whole) (if c then dropped s path i else record { path = path; blame = blamed s i } ∷ [])
   tolerant_case keeps s place way reaches tolerates path i at inner true e = inner
   tolerant_case keeps s place way reaches tolerates path i at inner false e =
-      All-cons (IsLeftOut root whole) (record { path = path; blame = blamed s i }) [] (record {
+      All-cons (IsLeftOut root whole) (record { path = path; blame = blamed s i }) [] (inl (record {
         part = i;
         leads = at;
         way = way;
@@ -118,28 +145,29 @@ module _ (root : Tested) (whole : Item) where
         kept = record { accepts = keeps; shape = s };
         tolerates = tolerates;
         refused = refused s keeps i e;
-      }) (All-nil (IsLeftOut root whole))
+      })) (All-nil (IsLeftOut root whole))
 
 mutual
   pub shape_left : (root : Tested) (whole : Item) (s : Shape) (place : Tested) (way : List ℕ)
       → reached way root ≡ Some place → ((n : ℕ) → part_of n place.shape ≡ part_of n s)
-      → ((t : Tested) → Tolerates s t → Tolerates place.shape t) → (path : List Step) (i : Item)
+      → ((t : Shape) → Wraps s t → Wraps place.shape t) → (path : List Step) (i : Item)
       → item_along path whole ≡ Some i → All (IsLeftOut root whole) (dropped s path i)
-  shape_left root whole (leaf w) place way reaches same tolerates path i at = All-nil (IsLeftOut root whole)
-  shape_left root whole (shape.list a s) place way reaches same tolerates path i at =
+  shape_left root whole (leaf w) place way reaches same wraps path i at = All-nil (IsLeftOut root whole)
+  shape_left root whole (shape.list a s) place way reaches same wraps path i at =
       list_left root whole (dropped s) (shape_left root whole s (record { accepts = a; shape = s }) (way ++ 0 ∷ [])
       (reached_further way 0 root place reaches ∙ same 0) (λ n. refl) (λ t h. h)) path i at
-  shape_left root whole (shape.map a s) place way reaches same tolerates path i at =
-      map_left root whole entry_step (entries_lead root whole) (λ n. dropped s)
+  shape_left root whole (shape.map a s) place way reaches same wraps path i at =
+      map_left root whole entry_step (λ q ps at. entries_by root whole q ps) (λ n. dropped s)
       (λ n. shape_left root whole s (record { accepts = a; shape = s }) (way ++ 0 ∷ [])
       (reached_further way 0 root place reaches ∙ same 0) (λ n. refl) (λ t h. h)) path i at
-  shape_left root whole (record_of b rows) place way reaches same tolerates path i at =
-      map_left root whole (member_step b (entries_in rows)) (members_lead root whole b (entries_in rows))
+  shape_left root whole (record_of b rows) place way reaches same wraps path i at =
+      map_left root whole (member_step b (entries_in rows))
+      (members_by root whole b rows place way reaches (wraps (record_of b rows) refl))
       (dropped_row rows) (λ n. rows_left root whole rows n (way ++ n ∷ [])
       (λ u e. reached_further way n root place reaches ∙ same n ∙ e)) path i at
-  shape_left root whole (shape.tolerant keeps s) place way reaches same tolerates path i at =
-      tolerant_case root whole keeps s place way reaches (tolerates (record { accepts = keeps; shape = s }) (inl refl))
-      path i at (shape_left root whole s place way reaches same (λ t h. tolerates t (inr h)) path i at) (keeps i) refl
+  shape_left root whole (shape.tolerant keeps s) place way reaches same wraps path i at =
+      tolerant_case root whole keeps s place way reaches (wraps (shape.tolerant keeps s) (inl refl))
+      path i at (shape_left root whole s place way reaches same (λ t h. wraps t (inr h)) path i at) (keeps i) refl
 
   rows_left : (root : Tested) (whole : Item) (rs : Rows) (n : ℕ) (way : List ℕ)
       → ((u : Tested) → row_in rs n ≡ Some u → reached way root ≡ Some u) → (path : List Step) (i : Item)

@@ -4,7 +4,7 @@ use Rattle.std.proofs.lemmas.List.{map-append}
 use Rattle.std.specs.Prelude.{IfOk, IfSome}
 use Rattle.passkey_cbor.proofs.items.Items.{elements-items_of, members-pairs_of}
 use Rattle.passkey_cbor.specs.CursorState.{CursorState, MovesForward}
-use Rattle.passkey_cbor.specs.EncodedAt.{Lies, IsEncodedAt, Opens}
+use Rattle.passkey_cbor.specs.EncodedAt.{Lies, IsEncodedAt, Opens, Passes}
 use Rattle.passkey_cbor.specs.Found.{FindsHead}
 use Rattle.passkey_cbor.specs.HeadEncoding.{IsEncodingOfHead}
 use Rattle.passkey_cbor.specs.Item.{Item, array, elements, members}
@@ -14,10 +14,10 @@ use Rattle.passkey_explain.proofs.Blames.{bare, parts_like, is_list, is_map, is_
 use Rattle.passkey_explain.proofs.Parts.{one_more, turn_key, turn_value}
 use Rattle.passkey_explain.proofs.Way.{ahead_at, headed, opened, starts}
 use Rattle.passkey_explain.specs.Along.{ItemsLie, PassedItems, LiesAlong, parts_of, part_index, turns}
-use Rattle.passkey_explain.specs.Blame.{Blame, Step, element, member, value, step_of}
-use Rattle.passkey_explain.specs.Blaming.{blamed, name_at}
-use Rattle.passkey_explain.specs.Dropped.{LeftOut, Leaving, Stepping, dropped, dropped_row, dropped_elements, dropped_list, dropped_value, dropped_pairs, dropped_map, entry_step, step_by, member_step}
-use Rattle.passkey_explain.specs.Drops.{Adds, IsOpened, Leaves, LeavesBy, LiesIn, Stands, left_out, steps_by}
+use Rattle.passkey_explain.specs.Blame.{Blame, Step, element, key, step_of}
+use Rattle.passkey_explain.specs.Blaming.{blamed}
+use Rattle.passkey_explain.specs.Dropped.{LeftOut, Leaving, Stepping, dropped, dropped_row, dropped_elements, dropped_list, dropped_pair, dropped_pairs, dropped_map, entry_step, step_by, member_step}
+use Rattle.passkey_explain.specs.Drops.{Adds, IsOpened, Leaves, LeavesBy, LiesIn, PairStands, Stands, left_out, steps_by}
 use Rattle.passkey_explain.specs.Next.{IsRecordAt}
 use Rattle.passkey_explain.specs.declared.blame.Step.{Step as CodeStep}
 use Rattle.passkey_explain.specs.declared.dropping.DroppedItem.{DroppedItem}
@@ -65,14 +65,14 @@ elements_left of path longer n x rest all at is = rw (at, is, add-one n) refl
 
 pub pairs_left : (steps : Stepping) (of : ℕ → Leaving) (path : List Step) (s : Option (Step × ℕ)) (n : ℕ) (m : Item × Item)
     (rest all : Members) → all ≡ m ∷ rest → s ≡ steps n m.0
-    → dropped_pairs steps of path n all ≡ dropped_value of path s m.1 ++ dropped_pairs steps of path (n + 1) rest
+    → dropped_pairs steps of path n all ≡ dropped_pair of path n s m.1 ++ dropped_pairs steps of path (n + 1) rest
 pairs_left steps of path s n m rest all at is = rw (at, is, add-one n) refl
 
-pub value_leaves : (of : ℕ → Leaving) (path : List Step) (o : Option (Step × ℕ)) (s : Step × ℕ) (i : Item)
+pub value_leaves : (of : ℕ → Leaving) (path : List Step) (n : ℕ) (o : Option (Step × ℕ)) (s : Step × ℕ) (i : Item)
     (longer : List Step) (leaving : Leaving) → o ≡ Some s → ((q : List Step) (x : Item) → of s.1 q x ≡ leaving q x)
-    → longer ≡ path ++ s.0 ∷ [] → dropped_value of path o i ≡ leaving longer i
-value_leaves of path o s i longer leaving is same further =
-    ap (λ (p : Option (Step × ℕ)). dropped_value of path p i) is ∙ same (path ++ s.0 ∷ []) i
+    → longer ≡ path ++ s.0 ∷ [] → dropped_pair of path n o i ≡ leaving longer i
+value_leaves of path n o s i longer leaving is same further =
+    ap (λ (p : Option (Step × ℕ)). dropped_pair of path n p i) is ∙ same (path ++ s.0 ∷ []) i
     ∙ ap (λ (q : List Step). leaving q i) (sym further)
 
 -- ---- arrays and maps in memory
@@ -219,16 +219,22 @@ pub whole_stands : (i : Item) (bytes : List ℕ) (len : ℕ) → IsLeadingItem b
 whole_stands i bytes len front =
     record { to = len; there = starts i bytes len front; leads = λ rest from end h. h }
 
+-- the item is encoded where the path leads
+pub lies_at : {whole i : Item} {path : List Step} {bytes : List ℕ} {place : ℕ} (s : Stands whole path i bytes place)
+    (from end : ℕ) → from ≡ place → end ≡ s.to → LiesAlong path whole bytes 0 from end
+lies_at {whole} {i} {path} {bytes} {place} s from end at to =
+    let there = s.leads [] place s.to (refl, s.there) in
+    subst (λ (q : List Step). LiesAlong q whole bytes 0 from end) (append-nil path)
+    (subst (λ (n : ℕ). LiesAlong (path ++ []) whole bytes 0 n end) (sym at)
+    (subst (λ (n : ℕ). LiesAlong (path ++ []) whole bytes 0 place n) (sym to) there))
+
 -- a dropped item is encoded where its path leads
 pub lies_here : (d : DroppedItem) {whole i : Item} {p : List CodeStep} {bytes : List ℕ} {place : ℕ}
     (s : Stands whole (map step_of p) i bytes place) → d.path.items ≡ p → d.extent.offset ≡ place
     → d.extent.offset + d.extent.len ≡ s.to → LiesIn whole bytes d
 lies_here d {whole} {i} {p} {bytes} {place} s same from end =
-    let path : map step_of p ++ [] ≡ map step_of d.path.items = append-nil (map step_of p) ∙ ap (map step_of) (sym same) in
-    let there = s.leads [] place s.to (refl, s.there) in
-    subst (λ (q : List Step). LiesAlong q whole bytes 0 d.extent.offset (d.extent.offset + d.extent.len)) path
-    (subst (λ (n : ℕ). LiesAlong (map step_of p ++ []) whole bytes 0 n (d.extent.offset + d.extent.len)) (sym from)
-    (subst (λ (n : ℕ). LiesAlong (map step_of p ++ []) whole bytes 0 place n) (sym end) there))
+    subst (λ (q : List Step). LiesAlong q whole bytes 0 d.extent.offset (d.extent.offset + d.extent.len))
+    (ap (map step_of) (sym same)) (lies_at s d.extent.offset (d.extent.offset + d.extent.len) from end)
 
 -- after the head
 pub head_opens : (whole i : Item) (path : List Step) (bytes : List ℕ) (a b : CursorState) (found : Option Head)
@@ -251,6 +257,14 @@ head_opens whole i path bytes a b (Some h) same s finds opens moves =
       extents = subst (λ (bs : List ℕ). ItemsLie (parts_of i) bs b.place o.0) now o.1;
       leads = s.leads;
     }
+
+-- after an item was skipped
+pub passed_there : {found : Bool} (x : Item) (to : ℕ) (a : CursorState) (bytes : List ℕ) (place : ℕ) (b : CursorState)
+    → a.bytes ≡ bytes → a.place ≡ place → IsEncodedAt x bytes place to
+    → ((y : Item) (end : ℕ) → IsEncodedAt y a.bytes a.place end → Passes end a b found) → b.place ≡ to
+passed_there x to a bytes place b same at there passes =
+    let here = subst (λ (n : ℕ). IsEncodedAt x bytes n to) (sym at) there in
+    (passes x to (subst (λ (bs : List ℕ). IsEncodedAt x bs a.place to) (sym same) here)).place
 
 -- the next part
 module _ {whole i : Item} {path : List Step} {bytes : List ℕ} {first : ℕ} (h : IsOpened whole path i bytes first)
@@ -329,18 +343,32 @@ value_next i ms k m rest is e =
     ap (λ (n : ℕ). slice_get (parts_of i) n) next ∙ ap (λ (ys : List Item). slice_get ys (suc (k + k))) is ∙ turn_value ms k
     ∙ ap (option_map (λ (p : Item × Item). p.1)) (first_of_rest ms k m rest e)
 
--- a step leads to the value of the pair at its index
-naming_stands : (es : List Entry) (n : ℕ) (P : Step → Type 0) → ((s : Step) → part_index s ≡ suc (n + n) → P s)
-    → (naming : Naming) → IfSome (step_by es n naming) (λ s. P s.0)
-naming_stands es n P stands (row k) = stands (member n k (name_at es k)) refl
-naming_stands es n P stands unknown = tt
-naming_stands es n P stands wrong = tt
-
-pub steps_stand : (k : Keys) (n : ℕ) (label : Item) (P : Step → Type 0)
-    → ((s : Step) → part_index s ≡ suc (n + n) → P s) → IfSome (steps_by k n label) (λ s. P s.0)
-steps_stand keys.Bytes n label P stands = stands (value n) refl
-steps_stand (keys.Names t) n label P stands =
-    let es = map entry_of t.rows.now in naming_stands es n P stands (names t.is_numbered es label)
-
 pub odd_index : (n k : ℕ) → k ≡ suc (n + n) → k ≡ n + n + 1
 odd_index n k e = omega (arith, e)
+
+-- the next pair
+pub pair_stands : {whole i : Item} {path : List Step} {bytes : List ℕ} {first : ℕ} (h : IsOpened whole path i bytes first)
+    (n place : ℕ) (p : PassedItems (parts_of i) (n + n) bytes first place h.end) (m : Item × Item)
+    → slice_get (parts_of i) (n + n) ≡ Some m.0 → slice_get (parts_of i) (n + n + 1) ≡ Some m.1
+    → PairStands whole path n m bytes place
+unfolding next_stands
+pair_stands h n place p m key_at value_at =
+    let end = next_end h (n + n) place p m.0 key_at in
+    let passed = next_passed h (n + n) place p m.0 key_at end refl in
+    record {
+      key_stands = next_stands h (n + n) place p m.0 key_at (key n) _ refl refl;
+      value_stands = λ s index.
+          next_stands h (n + n + 1) end passed m.1 value_at s _ (odd_index n (part_index s) index) refl;
+    }
+
+-- a step leads to the value of the pair at its index
+naming_leads : (es : List Entry) (n : ℕ) (naming : Naming)
+    → IfSome (step_by es n naming) (λ s. part_index s.0 ≡ suc (n + n))
+naming_leads es n (row k) = refl
+naming_leads es n unknown = tt
+naming_leads es n wrong = tt
+
+pub steps_lead : (k : Keys) (n : ℕ) (label : Item) → IfSome (steps_by k n label) (λ s. part_index s.0 ≡ suc (n + n))
+steps_lead keys.Bytes n label = refl
+steps_lead (keys.Names t) n label =
+    let es = map entry_of t.rows.now in naming_leads es n (names t.is_numbered es label)

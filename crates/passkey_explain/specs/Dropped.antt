@@ -1,14 +1,15 @@
--- What a message leaves out where it tolerates any data item: where in the item, and what is to blame.
+-- What a message leaves out: where in the item, and what is to blame.
 use Rattle.std.specs.Prelude.{ℕ, suc, ◌==◌, Bool, if◌then◌else◌, List, [], ◌∷◌, ◌++◌, Option, Some, None}
-use Rattle.passkey_explain.specs.Blame.{Blame, Step, element, member, value}
+use Rattle.passkey_explain.specs.Blame.{Blame, Step, element, member, value, key, at_fault}
 use Rattle.passkey_explain.specs.Blaming.{blamed, name_at}
 use Rattle.passkey_kinds.specs.Base.{Item, array, elements, members}
 use Rattle.passkey_kinds.specs.Record.{Members, Naming, row, names}
 use Rattle.passkey_kinds.specs.Shape.{Entry, Shape, leaf, record_of, Rows, no_rows, entries_in}
+use Rattle.passkey_kinds.specs.declared.fault.Fault.TheVariants.{BadKey}
 use Rattle.passkey_cbor.specs.Item as item
 use Rattle.passkey_kinds.specs.Shape as shape
 
--- The steps to a data item that is left out, and what in it is to blame, seen from it.
+-- The steps to a data item that is left out, or to the key of one, and what in it is to blame, seen from it.
 pub record LeftOut : Type 0 where
   pub path : List Step
   pub blame : Blame
@@ -30,7 +31,7 @@ dropped_list of path _ = []
 
 -- ---- maps
 
--- The step to the value of the pair at index n, with this key, and the number of the row that it belongs to.
+-- The step to the value of the pair at index n, with this key, and the number of the row that it belongs to, if there is one.
 abbrev pub Stepping : Type 0
 Stepping = ℕ → Item → Option (Step × ℕ)
 
@@ -46,16 +47,16 @@ step_by es n _ = None
 abbrev pub member_step : Bool → List Entry → Stepping
 member_step is_numbered es n label = step_by es n (names is_numbered es label)
 
--- of the value to which the step leads
-abbrev pub dropped_value : (ℕ → Leaving) → List Step → Option (Step × ℕ) → Item → List LeftOut
-dropped_value of path (Some s) i = of s.1 (path ++ s.0 ∷ []) i
-dropped_value of path None i = []
+-- of the pair at index n: of the value to which the step leads; or the key, if it names no member
+abbrev pub dropped_pair : (ℕ → Leaving) → List Step → ℕ → Option (Step × ℕ) → Item → List LeftOut
+dropped_pair of path n (Some s) i = of s.1 (path ++ s.0 ∷ []) i
+dropped_pair of path n None i = record { path = path ++ key n ∷ []; blame = at_fault BadKey } ∷ []
 
--- of the values of the pairs from index n on
+-- of the pairs from index n on
 abbrev pub dropped_pairs : Stepping → (ℕ → Leaving) → List Step → ℕ → Members → List LeftOut
 dropped_pairs steps of path n [] = []
 dropped_pairs steps of path n (m ∷ ms) =
-    dropped_value of path (steps n m.0) m.1 ++ dropped_pairs steps of path (suc n) ms
+    dropped_pair of path n (steps n m.0) m.1 ++ dropped_pairs steps of path (suc n) ms
 
 unfoldable pub dropped_map : Stepping → (ℕ → Leaving) → Leaving
 dropped_map steps of path (item.map ps) = dropped_pairs steps of path 0 (members ps)

@@ -1,15 +1,15 @@
 -- What the list of what a message leaves out says.
-use Rattle.std.specs.Prelude.{◌≡◌, ◌⊎◌, ◌≤◌, ◌+◌, ℕ, List, [], ◌∷◌, ◌++◌, map, Option, Some, None, IfSome}
+use Rattle.std.specs.Prelude.{◌≡◌, ◌⊎◌, ◌≤◌, ◌+◌, ℕ, suc, Bool, List, [], ◌∷◌, ◌++◌, map, Option, Some, None, IfSome, slice_get}
 use Rattle.std.specs.List.{All}
 use Rattle.std.specs.Global.{Vec}
 use Rattle.passkey_cbor.specs.CursorState.{CursorState}
 use Rattle.passkey_cbor.specs.EncodedAt.{Lies, IsEncodedAt}
 use Rattle.passkey_cbor.specs.HeadEncoding.{IsEncodingOfHead}
-use Rattle.passkey_cbor.specs.Item.{Item}
+use Rattle.passkey_cbor.specs.Item.{Item, Pairs, members}
 use Rattle.passkey_cbor.specs.LeadingItem.{HasNoLeadingItem}
 use Rattle.passkey_cbor.specs.declared.head.Head.{Head}
-use Rattle.passkey_explain.specs.Along.{ItemsLie, LiesAlong, parts_of}
-use Rattle.passkey_explain.specs.Blame.{Step, step_of, blame_of, item_along}
+use Rattle.passkey_explain.specs.Along.{ItemsLie, LiesAlong, part_index, parts_of}
+use Rattle.passkey_explain.specs.Blame.{Step, key, at_fault, step_of, blame_of, item_along}
 use Rattle.passkey_explain.specs.Dropped.{LeftOut, Leaving, Stepping, dropped, entry_step, member_step}
 use Rattle.passkey_explain.specs.declared.blame.Step.{Step as CodeStep}
 use Rattle.passkey_explain.specs.declared.dropping.DroppedItem.{DroppedItem}
@@ -19,7 +19,9 @@ use Rattle.passkey_kinds.specs.Record.{Fields}
 use Rattle.passkey_kinds.specs.Look.{tested}
 use Rattle.passkey_kinds.specs.RecordReading.{entry_of, nested, shape_of}
 use Rattle.passkey_explain.specs.Refusing.{IsRefusedAlong}
-use Rattle.passkey_kinds.specs.Shape.{Shape, tolerant, Tested, reached}
+use Rattle.passkey_kinds.specs.Shape.{Shape, tolerant, record_of, Rows, Tested, entries_in, reached}
+use Rattle.passkey_kinds.specs.declared.fault.Fault.TheVariants.{BadKey}
+use Rattle.passkey_cbor.specs.Item as item
 use Rattle.passkey_explain.specs.declared.dropping.Keys.TheVariants as keys
 
 -- ---- the code's types
@@ -40,24 +42,46 @@ steps_by (keys.Names t) n label = member_step t.is_numbered (map entry_of t.rows
 abbrev pub LiesIn : Item → List ℕ → DroppedItem → Type 0
 LiesIn i bytes d = LiesAlong (map step_of d.path.items) i bytes 0 d.extent.offset (d.extent.offset + d.extent.len)
 
--- The type is that of what is kept where any item is tolerated.
-abbrev pub Tolerates : Shape → Tested → Type 0
-Tolerates (tolerant keeps s) t = (t ≡ record { accepts = keeps; shape = s }) ⊎ Tolerates s t
-Tolerates _ t = ⊥
+-- The one type is the other, or the other where any item is tolerated in its place.
+abbrev pub Wraps : Shape → Shape → Type 0
+Wraps (tolerant keeps s) t = (tolerant keeps s ≡ t) ⊎ Wraps s t
+Wraps s t = s ≡ t
 
 -- The path leads to a data item in the whole one, at a part of the type that tolerates any item: what is kept there
 -- refuses it, and so each item on the blame's path.
-pub record IsLeftOut (root : Tested) (whole : Item) (d : LeftOut) : Type 0 where
+pub record IsTolerated (root : Tested) (whole : Item) (d : LeftOut) : Type 0 where
   pub part : Item
   pub leads : item_along d.path whole ≡ Some part
   pub way : List ℕ
   pub place : Tested
   pub reaches : reached way root ≡ Some place
   pub kept : Tested
-  pub tolerates : Tolerates place.shape kept
+  pub tolerates : Wraps place.shape (tolerant kept.accepts kept.shape)
   pub refused : IsRefusedAlong d.blame.path kept part d.blame.reason
 
--- These are the items that a message leaves out of the data item, each is refused, and they are encoded there.
+-- The path leads to a map in the whole data item, at a part of the type that is a record, and on to a key there that
+-- names no member of it.
+pub record IsUnknown (root : Tested) (whole : Item) (d : LeftOut) : Type 0 where
+  pub path : List Step
+  pub pairs : Pairs
+  pub leads : item_along path whole ≡ Some (item.map pairs)
+  pub way : List ℕ
+  pub place : Tested
+  pub reaches : reached way root ≡ Some place
+  pub is_numbered : Bool
+  pub rows : Rows
+  pub has : Wraps place.shape (record_of is_numbered rows)
+  pub index : ℕ
+  pub pair : Item × Item
+  pub there : slice_get (members pairs) index ≡ Some pair
+  pub unknown : member_step is_numbered (entries_in rows) index pair.0 ≡ None
+  pub is : d ≡ record { path = path ++ key index ∷ []; blame = at_fault BadKey }
+
+abbrev pub IsLeftOut : Tested → Item → LeftOut → Type 0
+IsLeftOut root whole d = IsTolerated root whole d ⊎ IsUnknown root whole d
+
+-- These are the items and the keys that a message leaves out of the data item, each for its reason, and they are encoded
+-- there.
 pub record AreDropped {P : Type 0} (t : Fields P) (i : Item) (bytes : List ℕ) (ds : List DroppedItem) : Type 0 where
   pub list : map left_out ds ≡ dropped (shape_of t) [] i
   pub left : All (IsLeftOut (tested (nested t)) i) (map left_out ds)
@@ -94,6 +118,13 @@ pub record Stands (whole : Item) (path : List Step) (i : Item) (bytes : List ℕ
   pub there : IsEncodedAt i bytes place to
   pub leads : (rest : List Step) (from end : ℕ) → LiesAlong rest i bytes place from end
       → LiesAlong (path ++ rest) whole bytes 0 from end
+
+-- The pair at this index of the map to which the path leads: its key is encoded from this offset on, and its value follows.
+pub record PairStands (whole : Item) (path : List Step) (n : ℕ) (m : Item × Item) (bytes : List ℕ) (place : ℕ) : Type 0
+  where
+    pub key_stands : Stands whole (path ++ key n ∷ []) m.0 bytes place
+    pub value_stands : (s : Step) → part_index s ≡ suc (n + n)
+        → Stands whole (path ++ s ∷ []) m.1 bytes key_stands.to
 
 -- The path leads from the whole data item to an array or a map, whose parts follow from this offset on.
 pub record IsOpened (whole : Item) (path : List Step) (i : Item) (bytes : List ℕ) (first : ℕ) : Type 0 where

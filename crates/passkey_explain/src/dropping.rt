@@ -1,25 +1,27 @@
-//! What a message leaves out where it tolerates any data item.
-ghost use Rattle.std.specs.Prelude.{◌≡◌, ◌+◌, ◌++◌, ◌∷◌, [], ℕ, List, map, option_map, IfOk, IfSome, Some};
+//! What a message leaves out: data items where it tolerates any, and members that it doesn't know.
+ghost use Rattle.std.specs.Prelude.{◌≡◌, ◌+◌, ◌++◌, ◌∷◌, [], ℕ, List, map, option_map, IfOk, Some};
 ghost use Rattle.std.specs.List.{All};
 ghost use Rattle.passkey_cbor.specs.EncodedAt.{IsEncodedAt};
 ghost use Rattle.passkey_cbor.specs.LeadingItem.{IsLeadingItem};
 ghost use Rattle.passkey_kinds.specs.Look.{tested};
 ghost use Rattle.passkey_kinds.specs.Shape.{Tested, reached};
 ghost use Rattle.passkey_kinds.specs.Words.{Item, item_of, pair_of};
-ghost use Rattle.passkey_explain.specs.Along.{parts_of, turns};
-ghost use Rattle.passkey_explain.specs.Blame.{step_of};
+ghost use Rattle.passkey_explain.specs.Along.{LiesAlong, parts_of, turns};
+ghost use Rattle.passkey_explain.specs.Blame.{at_fault, key, step_of};
 ghost use Rattle.passkey_explain.specs.Blaming.{blamed};
-ghost use Rattle.passkey_explain.specs.Dropped.{Leaving, dropped_elements, dropped_list, dropped_map, dropped_pairs, dropped_value};
+ghost use Rattle.passkey_explain.specs.Dropped.{Leaving, dropped_elements, dropped_list, dropped_map, dropped_pair, dropped_pairs};
 ghost use Rattle.passkey_explain.specs.Dropped as spec;
-ghost use Rattle.passkey_explain.specs.Drops.{Adds, AreDropped, GoesOn, IsOpened, Leaves, LeavesBy, LiesIn, ListsDropped, Stands, numbered_step, steps_by};
+ghost use Rattle.passkey_explain.specs.Drops.{Adds, AreDropped, GoesOn, IsOpened, Leaves, LiesIn, ListsDropped, PairStands, Stands, numbered_step, steps_by};
+ghost use Rattle.passkey_kinds.specs.declared.fault.Fault.TheVariants.{BadKey};
 
 use crate::descent::{Table, explain_at, further, name_of};
-use crate::{Blame, Extent, Step};
+use crate::{Blame, Extent, Reason, Step};
 use passkey_cbor::{CborError, Cursor, Value};
-use passkey_kinds::{Form, FromCbor, Message, Named, OutOfMemory, row_of};
+use passkey_kinds::{Fault, Form, FromCbor, Message, Named, OutOfMemory, row_of};
 use std::alloc::Global;
 
-/// A data item that a message leaves out, since what it would be decoded to doesn't accept it.
+/// A data item that a message leaves out, since what it would be decoded to doesn't accept it; or a
+/// map key that is left out with its value, since it names no member.
 #[derive(Debug, Drop)]
 pub struct DroppedItem {
     /// The steps to it.
@@ -38,6 +40,13 @@ enum Keys {
     Bytes,
     /// The numbers and names of a record's members.
     Names(Table),
+}
+
+/// The type of a map: the way to it, and what its keys are.
+#[derive(Clone, Copy)]
+struct MapType<'a> {
+    way: &'a [u8],
+    keys: Keys,
 }
 
 /// Returns the path with one more step.
@@ -69,7 +78,7 @@ fn step_to(keys: &Keys, index: usize, key: &Value) -> Option<(Step, u8)>
 /// Passes the data item at the cursor, and returns where it is encoded.
 fn pass(cursor: &mut Cursor<'_>) -> Extent
     ensures passes { (i : Item) (to : ℕ) → IsEncodedAt i cursor.old.bytes cursor.old.place to
-        → (result.offset ≡ cursor.old.place) × (result.offset + result.len ≡ to) }
+        → (result.offset ≡ cursor.old.place) × (result.offset + result.len ≡ to) × (cursor.new.place ≡ to) }
     ensures moves { GoesOn cursor.old cursor.new }
 {
     let offset = cursor.place();
@@ -170,54 +179,81 @@ fn put_list<M: FromCbor>(
     }
 }
 
-/// Adds what is left out of the value at the cursor, to which the step leads, if it has a type. The
-/// way leads to the type of the map, and the step's number on to that of the value.
-#[cycle(dropped)]
-fn put_value<M: FromCbor>(
+/// Adds a map key that names no member, which is encoded there. The path leads to the map.
+fn put_unknown(
     alloc: Global,
-    way: &[u8],
     path: &[Step],
-    step: Option<(Step, u8)>,
-    value: &Value,
+    index: usize,
+    at: Extent,
+    dropped: &mut Vec<DroppedItem>,
+) -> Result<(), OutOfMemory>
+    ensures lists { IfOk result (λ _. Adds
+        (record { path = map step_of path.now ++ key index ∷ []; blame = at_fault BadKey } ∷ [])
+        dropped.old.items dropped.new.items) }
+    ensures extents { (whole : Item) (bytes : List ℕ)
+        → LiesAlong (map step_of path.now ++ key index ∷ []) whole bytes 0 at.offset (at.offset + at.len)
+        → All (LiesIn whole bytes) dropped.old.items → IfOk result (λ _. All (LiesIn whole bytes) dropped.new.items) }
+{
+    let blame = Blame {
+        path: Vec::new(alloc),
+        reason: Reason::Fault(Fault::BadKey),
+    };
+    dropped.push(DroppedItem {
+        path: following(alloc, path, Step::Key(index))?,
+        extent: at,
+        blame,
+    })?;
+    Ok(())
+}
+
+/// Adds what is left out of the pair at the cursor, at this index of the map to which the path
+/// leads.
+#[cycle(dropped)]
+fn put_pair<M: FromCbor>(
+    alloc: Global,
+    path: &[Step],
+    ty: &MapType<'_>,
+    index: usize,
+    pair: &(Value, Value),
     cursor: &mut Cursor<'_>,
     dropped: &mut Vec<DroppedItem>,
 ) -> Result<(), OutOfMemory>
-    requires { (of : ℕ → Leaving) × IfSome (option_map numbered_step step) (LeavesBy (tested M.typed) way.now of) }
-    ensures lists { (of : ℕ → Leaving) → IfSome (option_map numbered_step step) (LeavesBy (tested M.typed) way.now of)
-        → IfOk result (λ _. Adds
-        (dropped_value of (map step_of path.now) (option_map numbered_step step) (item_of value.now))
+    requires { (of : ℕ → Leaving) × Leaves (tested M.typed) ty.now.way.now of (steps_by ty.now.keys) }
+    ensures lists { (of : ℕ → Leaving) → Leaves (tested M.typed) ty.now.way.now of (steps_by ty.now.keys)
+        → IfOk result (λ _. Adds (dropped_pair of (map step_of path.now) index
+        (steps_by ty.now.keys index (pair_of pair.now).0) (pair_of pair.now).1)
         dropped.old.items dropped.new.items) }
-    ensures extents { (whole : Item) (bytes : List ℕ) → cursor.old.bytes ≡ bytes → IfSome (option_map numbered_step step)
-        (λ s. Stands whole (map step_of path.now ++ s.0 ∷ []) (item_of value.now) bytes cursor.old.place)
+    ensures extents { (whole : Item) (bytes : List ℕ) → cursor.old.bytes ≡ bytes
+        → PairStands whole (map step_of path.now) index (pair_of pair.now) bytes cursor.old.place
         → All (LiesIn whole bytes) dropped.old.items → IfOk result (λ _. All (LiesIn whole bytes) dropped.new.items) }
     ensures moves { GoesOn cursor.old cursor.new }
 {
-    match step {
+    let (key, value) = pair;
+    let key_at = pass(cursor);
+    match step_to(&ty.keys, index, key) {
         Some((step, number)) => {
-            let inner = further(alloc, way, number)?;
+            let inner = further(alloc, ty.way, number)?;
             let longer = following(alloc, path, step)?;
             put_dropped::<M>(alloc, &inner, &longer, value, cursor, dropped)
         }
-        None => Ok(()),
+        None => put_unknown(alloc, path, index, key_at, dropped),
     }
 }
 
-/// Adds what is left out of the values of a map, whose pairs follow at the cursor. The way leads to
-/// the map's type.
+/// Adds what is left out of a map of this type, whose pairs follow at the cursor.
 #[cycle(dropped)]
 fn put_pairs<M: FromCbor>(
     alloc: Global,
-    way: &[u8],
     path: &[Step],
-    keys: &Keys,
+    ty: &MapType<'_>,
     pairs: &[(Value, Value)],
     cursor: &mut Cursor<'_>,
     dropped: &mut Vec<DroppedItem>,
 ) -> Result<(), OutOfMemory>
-    requires { (of : ℕ → Leaving) × Leaves (tested M.typed) way.now of (steps_by keys.now) }
-    ensures lists { (of : ℕ → Leaving) → Leaves (tested M.typed) way.now of (steps_by keys.now)
+    requires { (of : ℕ → Leaving) × Leaves (tested M.typed) ty.now.way.now of (steps_by ty.now.keys) }
+    ensures lists { (of : ℕ → Leaving) → Leaves (tested M.typed) ty.now.way.now of (steps_by ty.now.keys)
         → IfOk result (λ _. Adds
-        (dropped_pairs (steps_by keys.now) of (map step_of path.now) 0 (map pair_of pairs.now))
+        (dropped_pairs (steps_by ty.now.keys) of (map step_of path.now) 0 (map pair_of pairs.now))
         dropped.old.items dropped.new.items) }
     ensures extents { (whole i : Item) (bytes : List ℕ) → cursor.old.bytes ≡ bytes
         → parts_of i ≡ turns (map pair_of pairs.now)
@@ -225,33 +261,30 @@ fn put_pairs<M: FromCbor>(
         → All (LiesIn whole bytes) dropped.old.items → IfOk result (λ _. All (LiesIn whole bytes) dropped.new.items) }
     ensures moves { GoesOn cursor.old cursor.new }
 {
-    for (index, (key, value)) in pairs.iter().enumerate() {
-        cursor.skip();
+    for (index, pair) in pairs.iter().enumerate() {
         let place = cursor.place();
-        let step = step_to(keys, index, key);
-        put_value::<M>(alloc, way, path, step, value, cursor, dropped)?;
+        put_pair::<M>(alloc, path, ty, index, pair, cursor, dropped)?;
         cursor.go_back(place);
+        cursor.skip();
         cursor.skip();
     }
     Ok(())
 }
 
-/// Adds what is left out of the data item at the cursor if it is a map. The way leads to the map's
-/// type.
+/// Adds what a map of this type leaves out of the data item at the cursor if it is a map.
 #[cycle(dropped)]
 fn put_map<M: FromCbor>(
     alloc: Global,
-    way: &[u8],
     path: &[Step],
-    keys: &Keys,
+    ty: &MapType<'_>,
     value: &Value,
     cursor: &mut Cursor<'_>,
     dropped: &mut Vec<DroppedItem>,
 ) -> Result<(), OutOfMemory>
-    requires { (of : ℕ → Leaving) × Leaves (tested M.typed) way.now of (steps_by keys.now) }
-    ensures lists { (of : ℕ → Leaving) → Leaves (tested M.typed) way.now of (steps_by keys.now)
+    requires { (of : ℕ → Leaving) × Leaves (tested M.typed) ty.now.way.now of (steps_by ty.now.keys) }
+    ensures lists { (of : ℕ → Leaving) → Leaves (tested M.typed) ty.now.way.now of (steps_by ty.now.keys)
         → IfOk result (λ _. Adds
-        (dropped_map (steps_by keys.now) of (map step_of path.now) (item_of value.now))
+        (dropped_map (steps_by ty.now.keys) of (map step_of path.now) (item_of value.now))
         dropped.old.items dropped.new.items) }
     ensures extents { (whole : Item) (bytes : List ℕ) → cursor.old.bytes ≡ bytes
         → Stands whole (map step_of path.now) (item_of value.now) bytes cursor.old.place
@@ -261,7 +294,7 @@ fn put_map<M: FromCbor>(
     match value {
         Value::Map(pairs) => {
             cursor.head();
-            put_pairs::<M>(alloc, way, path, keys, pairs, cursor, dropped)
+            put_pairs::<M>(alloc, path, ty, pairs, cursor, dropped)
         }
         _ => Ok(()),
     }
@@ -292,10 +325,13 @@ fn put_dropped<M: FromCbor>(
     match look.form {
         Form::Leaf(_) => Ok(()),
         Form::List => put_list::<M>(alloc, way, path, value, cursor, dropped),
-        Form::Map => put_map::<M>(alloc, way, path, &Keys::Bytes, value, cursor, dropped),
+        Form::Map => {
+            let keys = Keys::Bytes;
+            put_map::<M>(alloc, path, &MapType { way, keys }, value, cursor, dropped)
+        }
         Form::Record(is_numbered, rows) => {
             let keys = Keys::Names(Table { is_numbered, rows });
-            put_map::<M>(alloc, way, path, &keys, value, cursor, dropped)
+            put_map::<M>(alloc, path, &MapType { way, keys }, value, cursor, dropped)
         }
     }
 }
@@ -315,9 +351,11 @@ fn dropped_in<M: Message>(
     Ok(dropped)
 }
 
-/// Lists the data items that the message at the beginning of the bytes leaves out, in their order:
-/// where the message tolerates any item, such as an element of `transports`, and the item isn't one
-/// that it keeps. Each is told with the steps to it, where it is encoded, and what in it is refused.
+/// Lists what the message at the beginning of the bytes leaves out, at all levels and in the order
+/// of the bytes. That is each data item that isn't kept where the message tolerates any, such as an
+/// element of `transports`, with what in it is refused; and each map key that names no member
+/// (`BadKey`), which is left out with its value. Each has the steps to it, and where it is encoded.
+/// What is kept in another form isn't listed, such as a `type` that is decoded to `Unknown`.
 /// Returns `None` exactly if the bytes don't begin with a well-formed data item of at most 256
 /// levels, and `OutOfMemory` if an allocation fails. For a message that is refused as a whole,
 /// which `explain` explains, it lists what would be left out beside that. It takes a few passes

@@ -1,4 +1,4 @@
-use Rattle.std.proofs.Common.{◌≡◌, ◌∙◌, ℕ, ◌+◌, ◌++◌, ◌∷◌, [], List, map, option_map, Option, Some, refl, sym, ap, subst, arith, rules}
+use Rattle.std.proofs.Common.{◌≡◌, ◌∙◌, ℕ, suc, ◌+◌, ◌++◌, ◌∷◌, [], List, map, option_map, Option, Some, refl, sym, ap, subst, arith, rules}
 use Rattle.std.specs.Prelude.{IfSome}
 use Rattle.passkey_cbor.specs.CursorState.{CursorState}
 use Rattle.passkey_cbor.specs.EncodedAt.{IsEncodedAt}
@@ -11,7 +11,7 @@ use Rattle.passkey_kinds.specs.Shape.{Tested, reached}
 use Rattle.passkey_kinds.specs.declared.look.Form.{Form}
 use Rattle.passkey_explain.proofs.Blames.{look_there, one_more_step}
 use Rattle.passkey_explain.proofs.Describing.{no_array, not_a_map}
-use Rattle.passkey_explain.proofs.LeavesOut.{if_added, value_leaves, steps_stand, odd_index, adds_nothing, adds_as, goes_on, elements_left, pairs_left, array_leaves, no_array_leaves, map_leaves, no_map_leaves, array_parts, map_parts, left_out_whole, leaf_leaves, list_kept, map_kept, record_kept, head_opens, next_end, next_there, next_passed, next_stands, element_next, key_next, value_next}
+use Rattle.passkey_explain.proofs.LeavesOut.{if_added, value_leaves, steps_lead, adds_nothing, adds_as, goes_on, elements_left, pairs_left, array_leaves, no_array_leaves, map_leaves, no_map_leaves, array_parts, map_parts, left_out_whole, leaf_leaves, list_kept, map_kept, record_kept, head_opens, next_there, next_passed, next_stands, passed_there, pair_stands, lies_at, element_next, key_next, value_next}
 use Rattle.passkey_explain.specs.Along.{PassedItems, parts_of, part_index}
 use Rattle.passkey_explain.specs.Blame.{Step, step_of, element}
 use Rattle.passkey_explain.specs.Dropped.{Leaving, dropped, entry_step, member_step}
@@ -129,13 +129,9 @@ put_elements-loop-index-preserved g t c = let root = tested g.M.FromCbor.typed i
           let now : c.loop-index.cursor.bytes ≡ bytes = c.loop-index.invariant.moves.same ∙ same in
           let p = before.0 in
           let stands = next_stands h n c.loop-index.cursor.place p _ next (element n) _ refl deref in
-          let there = next_there h n c.loop-index.cursor.place p _ next in
-          let here = subst (λ (k : ℕ). IsEncodedAt (item_of x.result) bytes k (next_end h n c.loop-index.cursor.place p _ next))
-          (sym start) there in
-          let passes = c.skip.ensures.passes _ _
-          (subst (λ (bs : List ℕ). IsEncodedAt (item_of x.result) bs c.go_back.new.self.place
-          (next_end h n c.loop-index.cursor.place p _ next)) (sym (back ∙ same)) here) in (
-            next_passed h n c.loop-index.cursor.place p _ next _ passes.place,
+          let passes = passed_there _ _ c.go_back.new.self bytes c.loop-index.cursor.place _ (back ∙ same) start
+          (next_there h n c.loop-index.cursor.place p _ next) c.skip.ensures.passes in (
+            next_passed h n c.loop-index.cursor.place p _ next _ passes,
             c.in_ok-put_dropped.ensures.extents whole bytes now stands before.1,
           );
     }
@@ -179,7 +175,7 @@ put_map-returns-in-Map-clause-lists g t c = λ of leaves.
     let is = ap item_of c.in-Map.is ∙ item_of-Map c.in-Map.pairs
     ∙ ap (λ (ps : List (Value × Value)). item.map (pairs_of (map pair_of ps))) (sym c.deref.ensures.value) in
     if_added _ _ c.put_pairs.result _ _
-    (map_leaves (steps_by c.args.keys.now) of (map step_of c.args.path.now) (item_of c.args.value.now) _ is)
+    (map_leaves (steps_by c.args.ty.now.keys) of (map step_of c.args.path.now) (item_of c.args.value.now) _ is)
     (c.put_pairs.ensures.lists of leaves)
 
 pub put_map-returns-in-Map-clause-extents : goal.put_map-returns-in-Map-clause-extents
@@ -194,70 +190,53 @@ put_map-returns-in-Map-clause-extents g t c = λ whole bytes same stands all.
 pub put_map-returns-in_default : goal.put_map-returns-in_default
 put_map-returns-in_default g t c = record {
   lists = λ of leaves. adds_as [] _ c.args.dropped.now.items _
-      (no_map_leaves (steps_by c.args.keys.now) of (map step_of c.args.path.now) (item_of c.args.value.now)
+      (no_map_leaves (steps_by c.args.ty.now.keys) of (map step_of c.args.path.now) (item_of c.args.value.now)
       (not_a_map c.args.value.now c.in_default.not-Map)) (adds_nothing c.args.dropped.now.items);
   extents = λ whole bytes same stands all. all;
   moves = record { same = refl; forward = omega arith };
 }
 
 pub put_pairs-loop-index-preserved : goal.put_pairs-loop-index-preserved
-put_pairs-loop-index-preserved g t c = let root = tested g.M.FromCbor.typed in
-    let m = c.index-pairs-index in
+put_pairs-loop-index-preserved g t c = let m = c.index-pairs-index in
     let at = mapped_at pair_of c.args.pairs.now _ m.result m.is c.loop-index-test.true in
     let n = c.loop-index.index in
     let p0 = c.loop-index.cursor.place in
-    let moves = c.in_ok-put_value.ensures.moves in
-    let same0 = c.skip.ensures.moves.same ∙ c.loop-index.invariant.moves.same in
-    let back = ap (λ (w : CursorState). w.bytes) c.go_back.ensures ∙ moves.same ∙ same0 in
+    let back = ap (λ (w : CursorState). w.bytes) c.go_back.ensures ∙ c.in_ok-put_pair.ensures.moves.same
+    ∙ c.loop-index.invariant.moves.same in
     let start = ap (λ (w : CursorState). w.place) c.go_back.ensures ∙ c.place-place.ensures in
-    let steps = steps_by c.args.keys.now in
-    let path = map step_of c.args.path.now in
     record {
       moves = record {
-        same = c.skip-in-loop-index.ensures.moves.same ∙ back;
+        same = c.skip-in-loop-index.ensures.moves.same ∙ c.skip.ensures.moves.same ∙ back;
         forward = omega (
           arith,
           c.loop-index.invariant.moves.forward,
-          c.skip.ensures.moves.forward,
           start,
+          c.skip.ensures.moves.forward,
           c.skip-in-loop-index.ensures.moves.forward,
         );
       };
       lists = λ of leaves.
-          let by : IfSome (option_map numbered_step c.step_to-step.result) (LeavesBy root c.args.way.now of) =
-          subst (λ (o : Option (Step × ℕ)). IfSome o (LeavesBy root c.args.way.now of)) (sym c.step_to-step.ensures)
-          (leaves n (item_of m.result.0)) in
-          let left = pairs_left steps of path _ n _ _ _ at c.step_to-step.ensures in
-          goes_on c.loop-index.dropped.items c.put_value.new.dropped.items _ _ _ _
-          (c.in_ok-put_value.ensures.lists of by) left (c.loop-index.invariant.lists of leaves);
+          let left = pairs_left (steps_by c.args.ty.now.keys) of (map step_of c.args.path.now) _ n _ _ _ at refl in
+          goes_on c.loop-index.dropped.items c.put_pair.new.dropped.items _ _ _ _
+          (c.in_ok-put_pair.ensures.lists of leaves) left (c.loop-index.invariant.lists of leaves);
       extents = λ whole i bytes same is h all.
           let before = c.loop-index.invariant.extents whole i bytes same is h all in
           let key_at = key_next i _ n _ _ is at in
           let value_at = value_next i _ n _ _ is at in
           let kp = before.0 in
-          let key_there = next_there h (n + n) p0 kp _ key_at in
+          let stands = pair_stands h n p0 kp _ key_at value_at in
           let now : c.loop-index.cursor.bytes ≡ bytes = c.loop-index.invariant.moves.same ∙ same in
-          let key_passes = c.skip.ensures.passes _ _
-          (subst (λ (bs : List ℕ). IsEncodedAt (item_of m.result.0) bs p0 (next_end h (n + n) p0 kp _ key_at)) (sym now)
-          key_there) in
+          let key_passes = passed_there _ _ c.go_back.new.self bytes p0 _ (back ∙ same) start
+          (next_there h (n + n) p0 kp _ key_at) c.skip.ensures.passes in
           let p1 = c.skip.new.self.place in
-          let vp = next_passed h (n + n) p0 kp _ key_at p1 key_passes.place in
-          let value_there = next_there h (n + n + 1) p1 vp _ value_at in
-          let end = next_end h (n + n + 1) p1 vp _ value_at in
-          let stands : IfSome (option_map numbered_step c.step_to-step.result)
-          (λ s. Stands whole (path ++ s.0 ∷ []) (item_of m.result.1) bytes p1) =
-          subst (λ (o : Option (Step × ℕ)). IfSome o (λ s. Stands whole (path ++ s.0 ∷ []) (item_of m.result.1) bytes p1))
-          (sym c.step_to-step.ensures) (steps_stand c.args.keys.now n (item_of m.result.0) (λ (s : Step).
-          Stands whole (path ++ s ∷ []) (item_of m.result.1) bytes p1)
-          (λ s index. next_stands h (n + n + 1) p1 vp _ value_at s _ (odd_index n (part_index s) index) refl)) in
-          let here = subst (λ (k : ℕ). IsEncodedAt (item_of m.result.1) bytes k end) (sym start) value_there in
-          let passes = c.skip-in-loop-index.ensures.passes _ _
-          (subst (λ (bs : List ℕ). IsEncodedAt (item_of m.result.1) bs c.go_back.new.self.place end) (sym (back ∙ same)) here) in
-          let done = next_passed h (n + n + 1) p1 vp _ value_at _ passes.place in
+          let vp = next_passed h (n + n) p0 kp _ key_at p1 key_passes in
+          let passes = passed_there _ _ c.skip.new.self bytes p1 _ (c.skip.ensures.moves.same ∙ back ∙ same) refl
+          (next_there h (n + n + 1) p1 vp _ value_at) c.skip-in-loop-index.ensures.passes in
+          let done = next_passed h (n + n + 1) p1 vp _ value_at _ passes in
           let two : n + n + 1 + 1 ≡ n + 1 + (n + 1) = omega arith in (
             subst (λ (k : ℕ). PassedItems (parts_of i) k bytes c.args.cursor.now.place c.skip-in-loop-index.new.self.place
                 h.end) two done,
-            c.in_ok-put_value.ensures.extents whole bytes (same0 ∙ same) stands before.1,
+            c.in_ok-put_pair.ensures.extents whole bytes now stands before.1,
           );
     }
 
@@ -265,25 +244,49 @@ pub put_pairs-returns-clause-extents : goal.put_pairs-returns-clause-extents
 put_pairs-returns-clause-extents g t c = λ whole i bytes same is h all.
     (c.loop-index.invariant.extents whole i bytes same is h all).1
 
-pub put_value-returns-in_ok-longer-in-Some-clause-lists : goal.put_value-returns-in_ok-longer-in-Some-clause-lists
-put_value-returns-in_ok-longer-in-Some-clause-lists g t c = λ of leaves.
+-- ---- a pair
+
+pub put_pair-returns-in_ok-longer-in-Some-clause-lists : goal.put_pair-returns-in_ok-longer-in-Some-clause-lists
+put_pair-returns-in_ok-longer-in-Some-clause-lists g t c = λ of leaves.
     let root = tested g.M.FromCbor.typed in
+    let way = c.args.ty.now.way.now in
+    let n = c.args.index in
+    let m = pair_of c.args.pair.now in
     let s = numbered_step (c.in-Some.step, c.in-Some.number) in
-    let by : LeavesBy root c.args.way.now of s = rw c.in-Some.is at leaves in
+    let step : steps_by c.args.ty.now.keys n m.0 ≡ Some s =
+    sym c.step_to.ensures ∙ ap (option_map numbered_step) c.in-Some.is in
+    let by : LeavesBy root way of s =
+    subst (λ (o : Option (Step × ℕ)). IfSome o (LeavesBy root way of)) step (leaves n m.0) in
     let inner = ap (λ (w : List ℕ). reached w root) (c.deref.ensures.value ∙ c.in_ok-inner-in-Some.ensures) ∙ by.1.0 in
     let longer = one_more_step c.args.path.now _ c.in-Some.step c.in_ok-longer-in-Some.ensures in
     let path = ap (map step_of) c.deref-in-Some.ensures.value ∙ longer in
     if_added _ _ c.put_dropped.result _ _
-    (value_leaves of (map step_of c.args.path.now) _ s (item_of c.args.value.now) _ (dropped by.0.shape)
-    (ap (option_map numbered_step) c.in-Some.is) by.1.1 path)
+    (value_leaves of (map step_of c.args.path.now) n _ s m.1 _ (dropped by.0.shape) step by.1.1 path)
     (c.put_dropped.ensures.lists by.0 inner)
 
-pub put_value-returns-in_ok-longer-in-Some-clause-extents : goal.put_value-returns-in_ok-longer-in-Some-clause-extents
-put_value-returns-in_ok-longer-in-Some-clause-extents g t c = λ whole bytes same stands all.
-    let i = item_of c.args.value.now in
-    let place = c.args.cursor.now.place in
-    let here : Stands whole (map step_of c.args.path.now ++ step_of c.in-Some.step ∷ []) i bytes place =
-    rw c.in-Some.is at stands in
+pub put_pair-returns-in_ok-longer-in-Some-clause-extents : goal.put_pair-returns-in_ok-longer-in-Some-clause-extents
+put_pair-returns-in_ok-longer-in-Some-clause-extents g t c = λ whole bytes same stands all.
+    let n = c.args.index in
+    let m = pair_of c.args.pair.now in
+    let step : steps_by c.args.ty.now.keys n m.0 ≡ Some (numbered_step (c.in-Some.step, c.in-Some.number)) =
+    sym c.step_to.ensures ∙ ap (option_map numbered_step) c.in-Some.is in
+    let index : part_index (step_of c.in-Some.step) ≡ suc (n + n) =
+    subst (λ (o : Option (Step × ℕ)). IfSome o (λ s. part_index s.0 ≡ suc (n + n))) step
+    (steps_lead c.args.ty.now.keys n m.0) in
+    let key = stands.key_stands in
+    let there = subst (λ (bs : List ℕ). IsEncodedAt m.0 bs c.args.cursor.now.place key.to) (sym same) key.there in
+    let passed = c.pass-key_at.ensures.passes m.0 key.to there in
     let longer = one_more_step c.args.path.now _ c.in-Some.step c.in_ok-longer-in-Some.ensures in
     let path = ap (map step_of) c.deref-in-Some.ensures.value ∙ longer in
-    c.put_dropped.ensures.extents whole bytes same (subst (λ (q : List Step). Stands whole q i bytes place) (sym path) here) all
+    let value = subst (λ (q : List Step). Stands whole q m.1 bytes key.to) (sym path)
+    (stands.value_stands (step_of c.in-Some.step) index) in
+    c.put_dropped.ensures.extents whole bytes (c.pass-key_at.ensures.moves.same ∙ same)
+    (subst (λ (k : ℕ). Stands whole (map step_of c.deref-in-Some.result.now) m.1 bytes k) (sym passed.2) value) all
+
+pub put_pair-returns-in-None-clause-extents : goal.put_pair-returns-in-None-clause-extents
+put_pair-returns-in-None-clause-extents g t c = λ whole bytes same stands all.
+    let m = pair_of c.args.pair.now in
+    let key = stands.key_stands in
+    let there = subst (λ (bs : List ℕ). IsEncodedAt m.0 bs c.args.cursor.now.place key.to) (sym same) key.there in
+    let passed = c.pass-key_at.ensures.passes m.0 key.to there in
+    c.put_unknown.ensures.extents whole bytes (lies_at key _ _ passed.0 passed.1) all

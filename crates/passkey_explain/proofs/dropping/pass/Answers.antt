@@ -7,4 +7,4 @@ returns-clause-passes c = λ i to l.
     let from = c.place-offset.result in
     let sum : from + (c.place.result - from) ≡ to =
     omega (arith, c.place.ensures, c.place-offset.ensures, p.place, l.forward) in
-    (c.place-offset.ensures, sum)
+    (c.place-offset.ensures, sum, p.place)
