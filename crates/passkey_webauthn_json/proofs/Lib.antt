@@ -2,3 +2,4 @@ pub mod Copied
 pub mod FaultsPassed
 pub mod Texts
 pub mod Plain
+pub mod SimpleForms

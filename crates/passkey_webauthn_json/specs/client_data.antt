@@ -4,3 +4,4 @@ pub mod ExtraData
 pub mod ClientData
 pub mod ClientDataText
 pub mod ClientDataBytes
+pub mod SimpleForm

@@ -5,6 +5,7 @@ mod client_data_fault;
 mod client_data_text;
 mod client_data_type;
 mod extra_data;
+mod simple_form;
 mod unknown_members;
 
 pub use client_data::{CollectedClientData, FixedMembers};

@@ -1,5 +1,5 @@
 //! Client data, decoded from JSON objects, and from the bytes that an authenticator signs.
-ghost use Rattle.std.specs.Prelude.{◌≡◌, ◌⊎◌, Ok, IfErr, IfOk, IsTrue};
+ghost use Rattle.std.specs.Prelude.{◌≡◌, ◌⊎◌, Ok, IfErr, IfOk, IfSome, IsTrue};
 ghost use Rattle.passkey_webauthn_json.specs.client_data.ClientData.{client_data, client_data_takes, fixed_members, held};
 ghost use Rattle.passkey_webauthn_json.specs.client_data.ClientDataBytes.{IsJsonOf, WhyNoClientData};
 ghost use Rattle.passkey_webauthn_json.specs.declared.client_data.client_data_fault.ClientDataFault.TheVariants.{BadJson, OutOfMemory as NoMemory};
@@ -10,6 +10,7 @@ ghost use Rattle.serde_json.specs.View.{view};
 use crate::client_data::client_data_fault::ClientDataFault;
 use crate::client_data::client_data_type::ClientDataType;
 use crate::client_data::extra_data::ClientDataExtra;
+use crate::client_data::simple_form::SimpleForm;
 use crate::client_data::unknown_members::{known_holds_float, unknown_members};
 use indexmap::IndexMap;
 use passkey_bytes::Text;
@@ -141,10 +142,41 @@ impl<E: ClientDataExtra> CollectedClientData<E> {
         })
     }
 
+    /// Decodes client data in the simple form, without a JSON tree; returns `None` for any other bytes,
+    /// and if `E` has no value for it. Returns `OutOfMemory` if an allocation fails.
+    fn from_simple(
+        alloc: Global,
+        bytes: &[u8],
+    ) -> Result<Option<CollectedClientData<E>>, OutOfMemory>
+        ensures { IfOk result (λ found. IfSome found
+            (λ made. IsJsonOf bytes.now (λ d. client_data E.has E.reads d ≡ Ok (held made)))) }
+    {
+        let Some(extra_data) = E::absent(alloc) else {
+            return Ok(None);
+        };
+        let Ok(text) = str::from_utf8(bytes) else {
+            return Ok(None);
+        };
+        let Some(form) = SimpleForm::find(text) else {
+            return Ok(None);
+        };
+        Ok(Some(CollectedClientData {
+            ty: form.ty,
+            challenge: Text::from_str(alloc, form.challenge)?,
+            origin: Text::from_str(alloc, form.origin)?,
+            cross_origin: form.cross_origin,
+            extra_data,
+            unknown_keys: IndexMap::new(alloc),
+        }))
+    }
+
     /// Decodes client data from its JSON text, such as a response's `client_data_json` (WebAuthn
     /// Level 3, section 5.8.1.1). Returns `BadJson` if the bytes aren't UTF-8, or aren't a JSON
     /// text of at most 127 nesting levels; else `Refused` with the fault of `from_json` for its
     /// value. Returns `OutOfMemory` if an allocation fails.
+    ///
+    /// Client data as clients write them, with these four members alone, are decoded without a JSON
+    /// tree if `E` knows what they are to it (`absent`), and take no memory but the result's.
     pub fn from_slice(
         alloc: Global,
         bytes: &[u8],
@@ -152,6 +184,9 @@ impl<E: ClientDataExtra> CollectedClientData<E> {
         ensures ok { IfOk result (λ made. IsJsonOf bytes.now (λ d. client_data E.has E.reads d ≡ Ok (held made))) }
         ensures err { IfErr result (WhyNoClientData (client_data E.has E.reads) bytes.now) }
     {
+        if let Some(data) = CollectedClientData::from_simple(alloc, bytes)? {
+            return Ok(data);
+        }
         let value = parse(alloc, bytes)?;
         let data = CollectedClientData::from_json(alloc, &value)?;
         Ok(data)

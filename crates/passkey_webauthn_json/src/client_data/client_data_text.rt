@@ -52,7 +52,7 @@ fn put_value(alloc: Global, text: &mut String, value: &Value) -> Result<(), OutO
 }
 
 /// Returns whether a JSON string has the text as it is, without an escape (RFC 8259, section 7).
-fn is_plain(text: &str) -> bool
+pub(crate) fn is_plain(text: &str) -> bool
     ensures { result ≡ list_all is_plain text.now }
 {
     for byte in text.as_bytes() {

@@ -1,6 +1,6 @@
 //! Other members of client data.
-ghost use Rattle.std.specs.Prelude.{◌≡◌, ℕ, Bool, true, List, Result, IfOk, IsTrue};
-ghost use Rattle.passkey_webauthn_json.specs.client_data.ExtraData.{are_extra};
+ghost use Rattle.std.specs.Prelude.{◌≡◌, ℕ, Bool, true, List, Result, IfOk, IfSome, IsTrue};
+ghost use Rattle.passkey_webauthn_json.specs.client_data.ExtraData.{IsWithoutOthers, are_extra};
 ghost use Rattle.passkey_json.specs.Fault.{Fault, Gives};
 ghost use Rattle.passkey_json.specs.Held.{names_of};
 ghost use Rattle.passkey_json.specs.Members.{Object as Names, in_object, takes_in};
@@ -45,6 +45,15 @@ pub trait ClientDataExtra: Drop {
         Self::from_object(&Object::of(alloc, value)?)
     }
 
+    /// Returns what client data is decoded to that has only `type`, `challenge`, `origin` and perhaps
+    /// `crossOrigin`, if that is the same for all of them; else `None`. If it is there, such client
+    /// data is decoded without a JSON tree (`CollectedClientData::from_slice`).
+    fn absent(_alloc: Global) -> Option<Self>
+        ensures { IfSome result (IsWithoutOthers reads) }
+    {
+        None
+    }
+
     /// Encodes the value as members, in their order. Returns `OutOfMemory` if an allocation fails.
     fn members(&self, alloc: Global) -> Result<Vec<(String, Value)>, OutOfMemory>
         ensures { IfOk result (λ ms. members_view ms.items ≡ written self.now) };
@@ -77,6 +86,10 @@ impl ClientDataExtra for () {
 
     fn from_object(_object: &Object<'_>) -> Result<(), JsonFault> {
         Ok(())
+    }
+
+    fn absent(_alloc: Global) -> Option<()> {
+        Some(())
     }
 
     fn members(&self, alloc: Global) -> Result<Vec<(String, Value)>, OutOfMemory> {
