@@ -44,6 +44,10 @@ impl ClientDataExtra for TopOrigin {
         Ok(TopOrigin(object.member("topOrigin").if_present()?))
     }
 
+    fn absent(_alloc: Global) -> Option<TopOrigin> {
+        Some(TopOrigin(None))
+    }
+
     fn members(&self, alloc: Global) -> Result<Vec<(String, Value)>, OutOfMemory> {
         let mut members = Vec::new(alloc);
         if let Some(origin) = &self.0 {
