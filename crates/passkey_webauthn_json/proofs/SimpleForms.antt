@@ -1,5 +1,5 @@
 -- Client data in the simple form: what the text is read as, and what that is decoded to.
-use Rattle.std.proofs.Common.{◌≡◌, ◌∙◌, ◌≤◌, ℕ, List, [], ◌∷◌, ◌++◌, Bool, true, false, Option, Some, None, Result, Ok, codes, if◌then◌else◌, refl, sym, ap, append_assoc, append-nil, option_and_then, arith}
+use Rattle.std.proofs.Common.{◌≡◌, ◌∙◌, ◌≤◌, ℕ, List, [], ◌∷◌, ◌++◌, Bool, true, false, Some, Result, Ok, codes, if◌then◌else◌, refl, sym, ap, append_assoc, append-nil, option_and_then, arith}
 use Rattle.std.proofs.lemmas.Bool.{or_parts}
 use Rattle.std.specs.List.{list_all}
 use Rattle.json.proofs.OnLiterals.{json_on_literals}
@@ -40,15 +40,12 @@ printed_plain front s rest text plain same = rw (plain_text s plain, same)
     (ap (λ (t : List ℕ). front ++ t) (append_assoc s (34 ∷ []) text))
 
 module _ (type_name challenge origin : List ℕ) where
-  abbrev cross_json : Option Bool → json.Members
-  cross_json None = json.no_members
-  cross_json (Some truth) = json.member (codes "crossOrigin") (json.boolean truth) json.no_members
-
-  abbrev simple_json : Option Bool → json.Json
+  abbrev simple_json : Bool → json.Json
   simple_json cross_origin = json.object
       (json.member (codes "type") (json.string type_name)
       (json.member (codes "challenge") (json.string challenge)
-      (json.member (codes "origin") (json.string origin) (cross_json cross_origin))))
+      (json.member (codes "origin") (json.string origin)
+      (json.member (codes "crossOrigin") (json.boolean cross_origin) json.no_members))))
 
   module _ (type_plain : list_all is_plain type_name ≡ true) (challenge_plain : list_all is_plain challenge ≡ true)
       (origin_plain : list_all is_plain origin ≡ true) where
@@ -62,21 +59,18 @@ module _ (type_name challenge origin : List ℕ) where
         (printed_plain (codes ",\"challenge\":\"") challenge _ _ challenge_plain
         (printed_plain (codes ",\"origin\":\"") origin end end origin_plain refl))
 
-    printed : (cross_origin : Option Bool)
+    printed : (cross_origin : Bool)
         → print (json_tokens (simple_json cross_origin)) ≡ simple_text type_name challenge origin (end_text cross_origin)
     unfolding json_on_literals
-    printed None = printed_up_to (end_text None)
-    printed (Some true) = printed_up_to (end_text (Some true))
-    printed (Some false) = printed_up_to (end_text (Some false))
+    printed true = printed_up_to (end_text true)
+    printed false = printed_up_to (end_text false)
 
     -- the text is read as an object of these members
-    pub read_simple : (cross_origin : Option Bool)
+    pub read_simple : (cross_origin : Bool)
         → read (simple_text type_name challenge origin (end_text cross_origin))
         ≡ Some (object (fixed_alone type_name challenge origin cross_origin))
-    read_simple None = ap read (sym (printed None))
-        ∙ read_printed (simple_json None) _ (tt, (tt, (tt, tt))) (omega arith) refl
-    read_simple (Some truth) = ap read (sym (printed (Some truth)))
-        ∙ read_printed (simple_json (Some truth)) _ (tt, (tt, (tt, (tt, tt)))) (omega arith) refl
+    read_simple cross_origin = ap read (sym (printed cross_origin))
+        ∙ read_printed (simple_json cross_origin) _ (tt, (tt, (tt, (tt, tt)))) (omega arith) refl
 
 -- ---- what the object is decoded to
 
@@ -94,31 +88,28 @@ float_free test (member name d ms) none =
 
 module _ (type_name challenge origin : List ℕ) (ty : ClientDataType)
     (named : value_in client_data_types type_name ≡ Some ty) where
-  fixed_decoded : (cross_origin : Option Bool)
+  fixed_decoded : (cross_origin : Bool)
       → members_in fixed_members (λ name. get_member name (fixed_alone type_name challenge origin cross_origin))
-      ≡ Ok (record { ty = ty; challenge = challenge; origin = origin; cross_origin = cross_origin })
+      ≡ Ok (record { ty = ty; challenge = challenge; origin = origin; cross_origin = Some cross_origin })
   unfolding required or_default if_present
-  fixed_decoded None = rw named refl
-  fixed_decoded (Some truth) = rw named refl
+  fixed_decoded cross_origin = rw named refl
 
   -- the client data that the object is decoded to, if the caller's value is decoded of it
   pub simple_value : {E : Type 0} (has : List ℕ → Bool) (reads : Object → Result E Fault) (x : E)
-      (cross_origin : Option Bool)
+      (cross_origin : Bool)
       → reads (λ name. get_member name (fixed_alone type_name challenge origin cross_origin)) ≡ Ok x
       → client_data has reads (object (fixed_alone type_name challenge origin cross_origin))
       ≡ Ok (record {
         ty = ty;
         challenge = challenge;
         origin = origin;
-        cross_origin = cross_origin;
+        cross_origin = Some cross_origin;
         extra_data = x;
         unknown_keys = no_members;
       })
   unfolding client_data_in
-  simple_value has reads x None same =
-      rw (fixed_decoded None, float_free has (fixed_alone type_name challenge origin None) refl, same) refl
-  simple_value has reads x (Some truth) same = rw (
-    fixed_decoded (Some truth),
-    float_free has (fixed_alone type_name challenge origin (Some truth)) refl,
+  simple_value has reads x cross_origin same = rw (
+    fixed_decoded cross_origin,
+    float_free has (fixed_alone type_name challenge origin cross_origin) refl,
     same,
   ) refl

@@ -1,5 +1,5 @@
 -- The other members of client data, which the caller's type knows.
-use Rattle.std.specs.Prelude.{◌≡◌, ℕ, Bool, true, ◌&&◌, ◌||◌, not, List, Option, Some, None, Result, Ok, codes}
+use Rattle.std.specs.Prelude.{◌≡◌, ℕ, Bool, true, ◌&&◌, ◌||◌, not, List, Some, Result, Ok, codes}
 use Rattle.std.specs.Str.{bytes_eq}
 use Rattle.passkey_webauthn_json.specs.client_data.ClientDataType.{client_data_types}
 use Rattle.passkey_webauthn_json.specs.client_data.MemberLists.{has_name}
@@ -28,20 +28,15 @@ are_extra has (member name d ms) = has name && not (is_fixed name) && not (has_n
 
 -- ---- client data without other members
 
--- the member `crossOrigin`, if it is there, before others
-abbrev pub with_cross_origin : Option Bool → Members → Members
-with_cross_origin None ms = ms
-with_cross_origin (Some truth) ms = member (codes "crossOrigin") (boolean truth) ms
-
 -- the members that all client data has, ordered by name
-abbrev pub fixed_alone : List ℕ → List ℕ → List ℕ → Option Bool → Members
+abbrev pub fixed_alone : List ℕ → List ℕ → List ℕ → Bool → Members
 fixed_alone type_name challenge origin cross_origin =
-    member (codes "challenge") (string challenge) (with_cross_origin cross_origin
+    member (codes "challenge") (string challenge) (member (codes "crossOrigin") (boolean cross_origin)
     (member (codes "origin") (string origin) (member (codes "type") (string type_name) no_members)))
 
 -- The value that client data of these members alone is decoded to, whatever they are.
 abbrev pub IsWithoutOthers : {E : Type 0} → (Object → Result E Fault) → E → Type 0
 IsWithoutOthers reads x =
-    (type_name challenge origin : List ℕ) (ty : ClientDataType) (cross_origin : Option Bool)
+    (type_name challenge origin : List ℕ) (ty : ClientDataType) (cross_origin : Bool)
     → value_in client_data_types type_name ≡ Some ty
     → reads (λ name. get_member name (fixed_alone type_name challenge origin cross_origin)) ≡ Ok x

@@ -1,6 +1,6 @@
 -- Client data in the simple form, as clients write them (WebAuthn Level 3, section 5.8.1.1): the members that all client
 -- data has, in their order, and no others; nothing between the tokens, and no escapes in the strings.
-use Rattle.std.specs.Prelude.{◌≡◌, ℕ, Bool, true, false, List, ◌∷◌, ◌++◌, Option, Some, None, codes}
+use Rattle.std.specs.Prelude.{◌≡◌, ℕ, Bool, true, false, List, ◌∷◌, ◌++◌, Some, codes}
 use Rattle.std.specs.List.{list_all}
 use Rattle.passkey_webauthn_json.specs.client_data.ClientDataText.{is_plain}
 use Rattle.passkey_webauthn_json.specs.client_data.ClientDataType.{client_data_types}
@@ -8,10 +8,9 @@ use Rattle.passkey_webauthn_json.specs.declared.client_data.simple_form.SimpleFo
 use Rattle.passkey_webauthn.specs.Names.{value_in}
 
 -- what follows the quote after `origin`
-abbrev pub end_text : Option Bool → List ℕ
-end_text None = codes "}"
-end_text (Some true) = codes ",\"crossOrigin\":true}"
-end_text (Some false) = codes ",\"crossOrigin\":false}"
+abbrev pub end_text : Bool → List ℕ
+end_text true = codes ",\"crossOrigin\":true}"
+end_text false = codes ",\"crossOrigin\":false}"
 
 -- the simple form, up to this end
 abbrev pub simple_text : List ℕ → List ℕ → List ℕ → List ℕ → List ℕ

@@ -151,6 +151,10 @@ impl<E: ClientDataExtra> CollectedClientData<E> {
         ensures { IfOk result (λ found. IfSome found
             (λ made. IsJsonOf bytes.now (λ d. client_data E.has E.reads d ≡ Ok (held made)))) }
     {
+        // The form ends with a truth value. What ends otherwise is told apart without a look at it.
+        if !bytes.ends_with(b"e}") {
+            return Ok(None);
+        }
         let Some(extra_data) = E::absent(alloc) else {
             return Ok(None);
         };
@@ -164,7 +168,7 @@ impl<E: ClientDataExtra> CollectedClientData<E> {
             ty: form.ty,
             challenge: Text::from_str(alloc, form.challenge)?,
             origin: Text::from_str(alloc, form.origin)?,
-            cross_origin: form.cross_origin,
+            cross_origin: Some(form.cross_origin),
             extra_data,
             unknown_keys: IndexMap::new(alloc),
         }))

@@ -45,9 +45,9 @@ pub trait ClientDataExtra: Drop {
         Self::from_object(&Object::of(alloc, value)?)
     }
 
-    /// Returns what client data is decoded to that has only `type`, `challenge`, `origin` and perhaps
-    /// `crossOrigin`, if that is the same for all of them; else `None`. If it is there, such client
-    /// data is decoded without a JSON tree (`CollectedClientData::from_slice`).
+    /// Returns what client data is decoded to that has `type`, `challenge`, `origin` and `crossOrigin`
+    /// alone, if that is the same for all of them; else `None`. If it is there, such client data is
+    /// decoded without a JSON tree (`CollectedClientData::from_slice`).
     fn absent(_alloc: Global) -> Option<Self>
         ensures { IfSome result (IsWithoutOthers reads) }
     {

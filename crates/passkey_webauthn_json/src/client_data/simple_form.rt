@@ -12,7 +12,7 @@ pub(crate) struct SimpleForm<'a> {
     pub(crate) ty: ClientDataType,
     pub(crate) challenge: &'a str,
     pub(crate) origin: &'a str,
-    pub(crate) cross_origin: Option<bool>,
+    pub(crate) cross_origin: bool,
 }
 
 /// Returns the string that lies between this front and a quote, and what follows the quote; `None`
@@ -28,16 +28,14 @@ fn plain_after<'a>(text: &'a str, front: &str) -> Option<(&'a str, &'a str)>
     }
 }
 
-/// Returns `crossOrigin`, if only this member follows `origin`, or none.
-fn cross_origin_at_end(text: &str) -> Option<Option<bool>>
+/// Returns `crossOrigin`, if this member and no other follows `origin`.
+fn cross_origin_at_end(text: &str) -> Option<bool>
     ensures { IfSome result (λ cross_origin. text.now ≡ end_text cross_origin) }
 {
     if text == ",\"crossOrigin\":false}" {
-        Some(Some(false))
+        Some(false)
     } else if text == ",\"crossOrigin\":true}" {
-        Some(Some(true))
-    } else if text == "}" {
-        Some(None)
+        Some(true)
     } else {
         None
     }
