@@ -9,6 +9,8 @@ use Rattle.passkey_json.specs.declared.json_fault.JsonFault.TheVariants as json
 use Rattle.passkey_kinds.specs.Message.{fault_name}
 use Rattle.passkey_kinds.specs.declared.fault.Fault.{Fault}
 use Rattle.passkey_kinds.specs.declared.fault.Fault.TheVariants as message
+use Rattle.passkey_webauthn_json.specs.declared.client_data.client_data_fault.ClientDataFault.{ClientDataFault}
+use Rattle.passkey_webauthn_json.specs.declared.client_data.client_data_fault.ClientDataFault.TheVariants as client_data
 use Rattle.passkey_rewrite.specs.declared.fault.RunFault.{RunFault}
 use Rattle.passkey_rewrite.specs.declared.fault.RunFault.TheVariants.{Refused, MessageRefused, JsonRefused, BadHex, BadJson, UnknownKind, OutOfMemory, InputFailed, OutputFailed}
 
@@ -49,3 +51,9 @@ message_fault_of refusal = MessageRefused refusal
 abbrev pub json_fault_of : JsonFault → RunFault
 json_fault_of json.OutOfMemory = OutOfMemory
 json_fault_of refusal = JsonRefused refusal
+
+-- the same for the fault of client data
+abbrev pub client_data_fault_of : ClientDataFault → RunFault
+client_data_fault_of client_data.BadJson = BadJson
+client_data_fault_of client_data.OutOfMemory = OutOfMemory
+client_data_fault_of (client_data.Refused fault) = json_fault_of fault

@@ -1,13 +1,14 @@
 //! Why a run failed.
 ghost use Rattle.std.specs.Prelude.{◌≡◌};
 ghost use Rattle.passkey_cose.specs.CoseErrors.{cose_error_of};
-ghost use Rattle.passkey_rewrite.specs.Fault.{status_of, line_of, fault_of, json_fault_of, message_fault_of};
+ghost use Rattle.passkey_rewrite.specs.Fault.{status_of, line_of, client_data_fault_of, fault_of, json_fault_of, message_fault_of};
 ghost use Rattle.passkey_rewrite.specs.declared.fault.RunFault.TheVariants.{OutOfMemory as NoMemory};
 
 use passkey_cbor::CborError;
 use passkey_cose::CoseError;
 use passkey_json::JsonFault;
 use passkey_kinds::Fault;
+use passkey_webauthn_json::client_data::ClientDataFault;
 use std::alloc::{AllocError, AllocFailed};
 use std::error::Error;
 use std::fmt;
@@ -117,6 +118,18 @@ impl From<JsonFault> for RunFault {
         match error {
             JsonFault::OutOfMemory => RunFault::OutOfMemory,
             refusal => RunFault::JsonRefused(refusal),
+        }
+    }
+}
+
+impl From<ClientDataFault> for RunFault {
+    ghost from_gives = { λ error fault. fault ≡ client_data_fault_of error };
+
+    fn from(error: ClientDataFault) -> RunFault {
+        match error {
+            ClientDataFault::BadJson => RunFault::BadJson,
+            ClientDataFault::OutOfMemory => RunFault::OutOfMemory,
+            ClientDataFault::Refused(fault) => RunFault::from(fault),
         }
     }
 }

@@ -86,9 +86,7 @@ impl<'a> JsonVisitor for JsonRewriting<'a> {
     }
 
     fn visit_client_data<E: ClientDataExtra>(self) -> Result<String, RunFault> {
-        let value = parse_json(self.alloc, self.input)?;
-        let client_data = CollectedClientData::<E>::from_json(self.alloc, &value)?;
-        drop(value);
+        let client_data = CollectedClientData::<E>::from_slice(self.alloc, self.input)?;
         Ok(String::from(client_data.to_text(self.alloc)?))
     }
 
