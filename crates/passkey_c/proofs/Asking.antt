@@ -18,7 +18,8 @@ module _ {A : Type 0} (view : A → List ℕ × ℕ) (IsWanted : List ℕ → �
   IsDenied = IsDenial HasFault (IsUnasked IsWanted demands is_one input)
 
   pub asked_of : {old new : Outputs} {status : ℕ} (made : Result A RunFault) (left : Result A Denial)
-      → IfOk made (λ v. IsWanted (view v).0 (view v).1) → IfErr made HasFault → Admits view demands is_one input made left → WritesResult view left old new status
+      → IfOk made (λ v. IsWanted (view v).0 (view v).1) → IfErr made HasFault
+      → Admits view demands is_one input made left → WritesResult view left old new status
       → WritesAsked IsWanted HasFault demands is_one input old new status
   asked_of (Ok v) (Ok w) ok err a writes = writes_of view IsAsked IsDenied (Ok w)
       (subst (λ (p : List ℕ × ℕ). IsWanted p.0 p.1 × MeetsAsked demands is_one input p.1) (sym a.0) (ok, a.1)) tt writes
